@@ -5,9 +5,9 @@ use Rattle.std.proofs.KnownBytes.{Appends-trans}
 use Rattle.desk_output.specs.Prefixes.{AppendsPrefix}
 
 -- a text, and then a prefix of another
-pub prefix_behind : (a b c : Option (List ℕ)) (first second : List ℕ) → Appends a b first → AppendsPrefix b c second →
+pub prefix_after : (a b c : Option (List ℕ)) (first second : List ℕ) → Appends a b first → AppendsPrefix b c second →
     AppendsPrefix a c (first ++ second)
-prefix_behind a b c first second p q = (
+prefix_after a b c first second p q = (
   first ++ q.0,
   q.1,
   ap (λ l. first ++ l) q.2 ∙ sym (append_assoc first q.0 q.1),

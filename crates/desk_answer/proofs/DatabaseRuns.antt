@@ -90,24 +90,24 @@ module _ {S : Type 0} (g : Ghosts S) (owner opened : Owner) (before after : Held
       subst (λ o. LeavesRows g d old.connection new.connection o Left) said.own.0
       (leaves d (subst (λ o. HoldsFile g d old.connection o old.last) (sym said.own.0) was))
 
-  in_either : (Kept : Layout → Type 0) → ((d : Layout) → HoldsFile g d old.connection opened old.last →
-      KeepsTables g d before old.connection → Kept d)
+  in_either : (Preserved : Layout → Type 0) → ((d : Layout) → HoldsFile g d old.connection opened old.last →
+      KeepsTables g d before old.connection → Preserved d)
       → IsDeskSchema (schema_of g before)
       ⊎ ((HasOldTables (schema_of g before) × HasRoomForClients (schema_of g before))
       ⊎ (HasNoTable (schema_of g before) × HasRoomForTables (schema_of g before)))
-      → KeepsDesk g opened before new.connection old.last Kept
-  in_either Kept keep (inl is) = inl (
+      → KeepsDesk g opened before new.connection old.last Preserved
+  in_either Preserved keep (inl is) = inl (
       let both = desk_has (schema_of g before) is in
       record {
         desk = is.0;
         schema_is = is.1;
         found = λ clear. (said.there both).fits (clean clear) is.0 is.1;
-        kept = λ open_. keep is.0 ((said.there both).holds open_ is.0 is.1)
+        preserved = λ open_. keep is.0 ((said.there both).holds open_ is.0 is.1)
             (λ late. subst (λ (db : Database). KeepsOthers is.0 (trees_of g before) db.trees)
             (sym ((said.there both).same late).0.now_is) (others_same is.0 (trees_of g before)));
       }
       )
-  in_either Kept keep (inr (inl of_one)) = inr (inl (
+  in_either Preserved keep (inr (inl of_one)) = inr (inl (
       let d = grown_desk (schema_of g before) of_one.0 of_one.1 in
       let can : GrowsTo (schema_of g before) d = grows (schema_of g before) of_one.0 of_one.1 in
       let it = said.grown of_one.0 in
@@ -116,10 +116,10 @@ module _ {S : Type 0} (g : Ghosts S) (owner opened : Owner) (before after : Held
         desk = d;
         grows = can;
         found = λ clear. it.fits (clean clear);
-        kept = λ open_. keep d (it.holds open_ d can) (λ late. it.others late open_ d can);
+        preserved = λ open_. keep d (it.holds open_ d can) (λ late. it.others late open_ d can);
       }
       ))
-  in_either Kept keep (inr (inr none)) = inr (inr (
+  in_either Preserved keep (inr (inr none)) = inr (inr (
       let d = desk_of (schema_of g before) none.1 in
       let made : Becomes (schema_of g before) d = becomes (schema_of g before) none.1 in
       record {
@@ -127,14 +127,14 @@ module _ {S : Type 0} (g : Ghosts S) (owner opened : Owner) (before after : Held
         desk = d;
         becomes = made;
         nothing = (said.made none.0).first;
-        kept = λ open_. keep d ((said.made none.0).fresh open_ d made)
+        preserved = λ open_. keep d ((said.made none.0).fresh open_ d made)
             (λ late. (said.made none.0).others late open_ d made);
       }
       ))
 
   -- what an open says, and what the answers keep
-  pub state_kept : KeepsFile g old new → KeepsState g owner before after old.last new.last
-  state_kept rows = subst (λ o. KeepsState g o before after old.last new.last) owner_is
+  pub state_preserved : KeepsFile g old new → KeepsState g owner before after old.last new.last
+  state_preserved rows = subst (λ o. KeepsState g o before after old.last new.last) owner_is
       (subst (λ conn. KeepsState g opened before conn old.last new.last) (sym after_is)
       (in_either (λ d. HoldsFile g d new.connection opened new.last × KeepsTables g d before new.connection)
       (λ d was start.

@@ -15,7 +15,7 @@ use Rattle.desk_saved.specs.Store.{StoreValue}
 use Rattle.desk_types.specs.Refusal.{IsStoreRefusal, IsWritingFault}
 use Rattle.desk_answer.specs.AnswerFile.{LeavesFile, IsEither, HasFollowed}
 use Rattle.desk_answer.specs.AnswerStream.{HasSent, HasSentButLast, HasEndedBy, IsAnswerFault}
-use Rattle.desk_answer.proofs.SentInOrder.{prefix_behind, sent_as, sent_more, but_last_more}
+use Rattle.desk_answer.proofs.SentInOrder.{prefix_after, sent_as, sent_more, but_last_more}
 use Rattle.desk_output.specs.Prefixes.{AppendsPrefix}
 use Rattle.desk_output.proofs.Prefixes.{whole_prefix}
 use Rattle.desk_frames.proofs.Receiving.{HasCome, IsReadRefused, received_as, received_first, received_more}
@@ -98,7 +98,7 @@ ended_by_packets g r input now left old mid new a b c first file last rest after
       cut_short = λ send. (
         _,
         received_first input now left _ _ _ rest after ms
-            (λ ps qs done. sent_more _ _ (AppendsPrefix old new) (prefix_behind old mid new) a b ps done c qs)
+            (λ ps qs done. sent_more _ _ (AppendsPrefix old new) (prefix_after old mid new) a b ps done c qs)
             h come (some send),
       );
       unsaved = λ store.

@@ -15,7 +15,7 @@ use Rattle.desk_saved.specs.File.{HasFile, HoldsFile}
 use Rattle.desk_saved.specs.Saving.{WhereHeld, StopLeaves, KeepsFile}
 use Rattle.desk_saved.specs.Store.{StoreValue}
 use Rattle.desk_log.proofs.KnownPrefix.{memory_no_store}
-use Rattle.desk_saved.proofs.KeptFile.{kept_still, kept_further}
+use Rattle.desk_saved.proofs.SameFile.{preserved_still, preserved_further}
 use Rattle.desk_saved.proofs.SeveralStatements.{others_same, others_then}
 use Rattle.desk_saved.proofs.SavedRows.{left_alone, others_alone, sound_alone}
 use Rattle.desk_types.specs.Refusal.{IsStoreRefusal}
@@ -27,15 +27,15 @@ LeavesCommitted g held = IsTrue (state g held).is_open → (trees : Trees) → (
     → trees ≡ (state g held).committed.trees
 
 -- rows that are kept are what a crash leaves
-pub kept_alone : {S : Type 0} (g : Ghosts S) (old new : StoreValue S) (saved : SavedValue) →
+pub preserved_alone : {S : Type 0} (g : Ghosts S) (old new : StoreValue S) (saved : SavedValue) →
     LeavesCommitted g new.connection → KeepsFile g old new → new.owner ≡ old.owner → new.last ≡ saved →
     LeavesFile g old new (λ s. s ≡ saved)
-kept_alone g old new saved settled keeps owner last d holds clean trees leaves =
-    let kept = keeps d holds in
-    let now : HoldsFile g d new.connection old.owner saved = rw (← owner, ← last) kept.0 in (
+preserved_alone g old new saved settled keeps owner last d holds clean trees leaves =
+    let preserved = keeps d holds in
+    let now : HoldsFile g d new.connection old.owner saved = rw (← owner, ← last) preserved.0 in (
       (saved, refl, left_alone g new.connection d old.owner saved now settled clean trees leaves),
       others_alone g new.connection d old.owner saved now settled clean trees leaves
-          (trees_of g old.connection) (kept.1 clean),
+          (trees_of g old.connection) (preserved.1 clean),
       sound_alone g new.connection d old.owner saved now settled clean trees leaves,
     )
 
@@ -140,7 +140,7 @@ followed_nothing g old saved x last = record {
   stopped = tt;
   running = λ _. refl;
   last = λ _. last;
-  rows = λ _. kept_still g old;
+  rows = λ _. preserved_still g old;
 }
 
 module _ {S T : Type 0} (g : Ghosts S) (old mid new : StoreValue S) (first saved : SavedValue) (x : T)
@@ -154,7 +154,7 @@ module _ {S T : Type 0} (g : Ghosts S) (old mid new : StoreValue S) (first saved
     stopped = tt;
     running = λ _. k.running tt ∙ h.running tt;
     last = k.last;
-    rows = λ _. kept_further g old mid new k.clean (h.rows tt) (k.rows tt);
+    rows = λ _. preserved_further g old mid new k.clean (h.rows tt) (k.rows tt);
   }
   followed_more (Err r) k = record {
     owner_is = k.owner_is ∙ h.owner_is;
@@ -163,17 +163,17 @@ module _ {S T : Type 0} (g : Ghosts S) (old mid new : StoreValue S) (first saved
     stopped = k.stopped;
     running = λ stored. k.running stored ∙ h.running tt;
     last = k.last;
-    rows = λ stored. kept_further g old mid new k.clean (h.rows tt) (k.rows stored);
+    rows = λ stored. preserved_further g old mid new k.clean (h.rows tt) (k.rows stored);
   }
 
   pub left_more : (Left : SavedValue → Type 0) →
       (HasCleanDisk (state g new.connection) → HasCleanDisk (state g mid.connection)) → LeavesFile g mid new Left →
       LeavesFile g old new Left
   left_more Left clean k d holds late trees leaves =
-      let kept = h.rows tt d holds in
-      let it = k d kept.0 late trees leaves in (
+      let preserved = h.rows tt d holds in
+      let it = k d preserved.0 late trees leaves in (
         (it.0.0, it.0.1, subst (λ own. HasFile d own it.0.0 trees) h.owner_is it.0.2),
-        others_left d (state g old.connection) (state g mid.connection) trees (kept.1 (clean late)) it.1,
+        others_left d (state g old.connection) (state g mid.connection) trees (preserved.1 (clean late)) it.1,
         it.2,
       )
 

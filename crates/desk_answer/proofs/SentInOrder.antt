@@ -15,9 +15,9 @@ use Rattle.desk_answer.specs.AnswerStream.{HasSent, HasSentButLast}
 use Rattle.desk_answer.proofs.StepsInOrder.{stepped_nothing, stepped_more}
 
 -- a prefix of the last of two texts is written
-pub prefix_behind : (a b c : Option (List ℕ)) (xs ys : List ℕ) → Appends a b xs → AppendsPrefix b c ys →
+pub prefix_after : (a b c : Option (List ℕ)) (xs ys : List ℕ) → Appends a b xs → AppendsPrefix b c ys →
     AppendsPrefix a c (xs ++ ys)
-prefix_behind a b c xs ys p q = (
+prefix_after a b c xs ys p q = (
   xs ++ q.0,
   q.1,
   ap (λ t. xs ++ t) q.2 ∙ sym (append_assoc xs q.0 q.1),
@@ -84,5 +84,5 @@ module _ (a b c : Option (List ℕ)) (xs : List (ℕ × Message)) (i : ℕ) (x :
       ap (λ (ys : List (ℕ × Message)). frames_spelling (map f ys)) (sym (take-append-drop (i + 1) xs))
       ∙ ap frames_spelling (map-append f (take (i + 1) xs) (drop (i + 1) xs))
       ∙ frames_append (map f (take (i + 1) xs)) (map f (drop (i + 1) xs)) in
-      let first = subst (AppendsPrefix a c) (sym one_more) (prefix_behind a b c _ (frame_spelling x.1) h k) in
+      let first = subst (AppendsPrefix a c) (sym one_more) (prefix_after a b c _ (frame_spelling x.1) h k) in
       subst (AppendsPrefix a c) (sym whole) (prefix_longer a c _ _ first)

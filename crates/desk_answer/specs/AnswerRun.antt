@@ -56,36 +56,36 @@ pub record AnswersButLast (Writes : List ℕ → Type 0) (owner : Owner) (first 
 
 -- The database had the tables of a desk, and their rows were those of `first`. Of this desk it is kept what is asked.
 pub record Continues {S : Type 0} (g : Ghosts S) (owner : Owner) (before after : Held S) (first : SavedValue)
-    (Kept : Layout → Type 0) : Type 0 where
+    (Preserved : Layout → Type 0) : Type 0 where
   pub desk : Layout
   pub schema_is : schema_of g before ≡ desk.schema
   pub found : HasCleanDisk (state g after) → IsState first × HasFile desk owner first (trees_of g before)
-  pub kept : IsTrue (state g before).is_open → Kept desk
+  pub preserved : IsTrue (state g before).is_open → Preserved desk
 
 -- It had the tables of version 1, whose rows were those of `first`, and got the one of the clients beside them. Of the
 -- desk that it has then it is kept what is asked.
 pub record Migrates {S : Type 0} (g : Ghosts S) (owner : Owner) (before after : Held S) (first : SavedValue)
-    (Kept : Layout → Type 0) : Type 0 where
+    (Preserved : Layout → Type 0) : Type 0 where
   pub old : HasOldTables (schema_of g before)
   pub desk : Layout
   pub grows : GrowsTo (schema_of g before) desk
   pub found : HasCleanDisk (state g after)
       → IsOldState first × HasOldFile old.tables owner first (trees_of g before)
-  pub kept : IsTrue (state g before).is_open → Kept desk
+  pub preserved : IsTrue (state g before).is_open → Preserved desk
 
 -- It had none of the tables and got them, and `first` is what a node saves that has done nothing.
-pub record Begins {S : Type 0} (g : Ghosts S) (before : Held S) (first : SavedValue) (Kept : Layout → Type 0) :
+pub record Begins {S : Type 0} (g : Ghosts S) (before : Held S) (first : SavedValue) (Preserved : Layout → Type 0) :
     Type 0 where
   pub none : HasNoTable (schema_of g before)
   pub desk : Layout
   pub becomes : Becomes (schema_of g before) desk
   pub nothing : first ≡ initial_saved
-  pub kept : IsTrue (state g before).is_open → Kept desk
+  pub preserved : IsTrue (state g before).is_open → Preserved desk
 
 -- What the node had saved was that of the database, whose desk keeps what is asked.
 abbrev pub KeepsDesk : {S : Type 0} → Ghosts S → Owner → Held S → Held S → SavedValue → (Layout → Type 0) → Type 0
-KeepsDesk g owner before after first Kept = Continues g owner before after first Kept
-    ⊎ (Migrates g owner before after first Kept ⊎ Begins g before first Kept)
+KeepsDesk g owner before after first Preserved = Continues g owner before after first Preserved
+    ⊎ (Migrates g owner before after first Preserved ⊎ Begins g before first Preserved)
 
 -- The node's state was kept: the database has now what it saved last, and the tables of others as they were.
 abbrev pub KeepsState : {S : Type 0} → Ghosts S → Owner → Held S → Held S → SavedValue → SavedValue → Type 0

@@ -128,13 +128,13 @@ pub fn answer_database<R: Read, W: Write, S: Alter>(
         → ¬ HasRoomForTables (schema_of S.Store connection)
         → EndsAtOnceBy refusals.StoreFault connection result.connection result.result }
 {
-    let Ok(kept) = owner.copy() else {
+    let Ok(preserved) = owner.copy() else {
         return Answered {
             connection,
             result: Err(Refusal::WantOfMemory),
         };
     };
-    match SavedState::open(alloc, connection, kept) {
+    match SavedState::open(alloc, connection, preserved) {
         Ok(mut file) => {
             let result = answer_from_last(alloc, reader, writer, owner, &mut file);
             Answered {

@@ -86,7 +86,7 @@ pub fn answer_stream<R: Read, W: Write, S: Alter>(
     ensures running { HasStored result → file.new.stopped ≡ file.old.stopped }
     ensures last { HasStored result → file.new.last ≡ node.new.saved }
     ensures rows { HasStored result → KeepsFile S.Store file.old file.new }
-    ensures kept { HasStored result → LeavesFile S.Store file.old file.new (λ s. s ≡ node.new.saved) }
+    ensures preserved { HasStored result → LeavesFile S.Store file.old file.new (λ s. s ≡ node.new.saved) }
 {
     let mut frames = FrameReader::new(alloc)?;
     answer_frames(alloc, reader, writer, node, file, &mut frames)

@@ -12,7 +12,7 @@ use Rattle.desk_arena.specs.declared.arena.Mark.{Mark}
 use Rattle.desk_arena.specs.declared.node.TheConstants.{NODE_BYTES}
 use Rattle.desk_arena.specs.declared.node.Node.{Node}
 use Rattle.desk_arena.proofs.NodeBytes.{length-nodes_of, length-node_bytes, nodes_of-written, nodes_of-written_next}
-use Rattle.desk_arena.proofs.Writes.{drop-drop, length-written, drop-written_behind, drop-written_at}
+use Rattle.desk_arena.proofs.Writes.{drop-drop, length-written, drop-written_after, drop-written_at}
 
 same_contents : (c c' : ℕ) (ns ns' : List Node) (ts ts' : List ℕ) → c ≡ c' → ns ≡ ns' → ts ≡ ts'
     → ◌≡◌ {A = Contents} (record { capacity = c; nodes = ns; texts = ts })
@@ -73,7 +73,7 @@ with_node-contents a block node is eight fit fits =
     same_contents _ _ _ _ _ _ same_length
     (ap (nodes_of (a.nodes + 1)) is ∙ nodes_of-written_next node eight fit a.nodes a.block (omega arith))
     (ap (λ n. drop (n - a.texts) block) same_length ∙ ap (drop start) block_is
-    ∙ drop-written_behind a.block (node_bytes node) at room_for start (omega arith))
+    ∙ drop-written_after a.block (node_bytes node) at room_for start (omega arith))
 
 -- a text is written in front of the texts
 module _ (a : Inside) (block bytes : List ℕ) where

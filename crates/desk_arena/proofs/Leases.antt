@@ -32,8 +32,8 @@ module _ (E : El) (Z : Al) where
   abbrev pub lease_own : List Val → Fml
   lease_own = (Struct (shape (lease.the_type (R E) (P E Z) Z.g))).own_val (tt, tt)
 
-  pub lease_told : (vs : List Val) → shadow (lease_own vs) → vs ≡ lease_val ∷ []
-  lease_told vs s = s.1.0 ∙ (λ i. vstruct (of_list (s.1.1.0.1.0 i ++ [])) ∷ [])
+  pub lease_reported : (vs : List Val) → shadow (lease_own vs) → vs ≡ lease_val ∷ []
+  lease_reported vs s = s.1.0 ∙ (λ i. vstruct (of_list (s.1.1.0.1.0 i ++ [])) ∷ [])
 
   module _ {M : Type 1} {𝓤 : Ura M} (𝓛 : Logic 𝓤) where
     lease_words : ent 𝓤 (emp 𝓤) (sem 𝓛 (lease_own (lease_val ∷ [])))

@@ -114,16 +114,16 @@ module _ (node : Node) (eight : length node.words ≡ 8) (fit : (i : ℕ) → ge
       → nodes_of (n + 1) (take (NODE_BYTES * n) old ++ node_bytes node ++ drop (NODE_BYTES * n + NODE_BYTES) old)
       ≡ nodes_of n old ++ node ∷ []
   nodes_of-written_next n old fits =
-      let behind = drop (NODE_BYTES * n + NODE_BYTES) old in
-      ap (nodes_of (n + 1)) (append_assoc (take (NODE_BYTES * n) old) (node_bytes node) behind)
-      ∙ nodes_of-append n 1 (take (NODE_BYTES * n) old) (node_bytes node ++ behind)
+      let after = drop (NODE_BYTES * n + NODE_BYTES) old in
+      ap (nodes_of (n + 1)) (append_assoc (take (NODE_BYTES * n) old) (node_bytes node) after)
+      ∙ nodes_of-append n 1 (take (NODE_BYTES * n) old) (node_bytes node ++ after)
       (length-take-le (NODE_BYTES * n) old (omega arith))
-      ∙ ap₂ (λ a b. a ++ b) (nodes_of-take n old (omega arith)) (ap (λ a. a ∷ []) (node_of-node_bytes behind))
+      ∙ ap₂ (λ a b. a ++ b) (nodes_of-take n old (omega arith)) (ap (λ a. a ∷ []) (node_of-node_bytes after))
 
 -- what is written after the nodes leaves them
 pub nodes_of-written : (n at : ℕ) (old new : List ℕ) → NODE_BYTES * n ≤ at → at + length new ≤ length old
     → nodes_of n (take at old ++ new ++ drop (at + length new) old) ≡ nodes_of n old
-nodes_of-written n at old new behind fits =
+nodes_of-written n at old new after fits =
     let m = NODE_BYTES * n in
     let rest = drop (at + length new) old in
     let all = take at old ++ new ++ rest in
@@ -131,7 +131,7 @@ nodes_of-written n at old new behind fits =
     let same : take m all ≡ take m old =
     ap (take m) (append_assoc (take at old) new rest)
     ∙ take-append-le m (take at old) (new ++ rest) (omega (arith, length-take-le at old (omega arith)))
-    ∙ take-take m at old behind in
+    ∙ take-take m at old after in
     sym (nodes_of-take n all long) ∙ ap (nodes_of n) same ∙ nodes_of-take n old (omega arith)
 
 -- the word at a place

@@ -31,8 +31,8 @@ module _ (old new : List ℕ) (at : ℕ) (fits : at + length new ≤ length old)
   length-front = omega (arith, length-append (take at old) new, length-take-le at old (omega arith))
 
   -- what lies after it stays
-  pub drop-written_behind : (k : ℕ) → at + length new ≤ k → drop k written ≡ drop k old
-  drop-written_behind k behind =
+  pub drop-written_after : (k : ℕ) → at + length new ≤ k → drop k written ≡ drop k old
+  drop-written_after k after =
       let more = k - (at + length new) in
       let k_is : k ≡ length (take at old ++ new) + more = omega (arith, length-front) in
       let is_k : (at + length new) + more ≡ k = omega arith in
@@ -58,9 +58,9 @@ written-written old xs ys at fits =
     let front : take (at + length xs) (take at old ++ xs ++ rest) ≡ take at old ++ xs =
     ap (λ n. take n (take at old ++ xs ++ rest)) (sym (length-front old xs at first_fits))
     ∙ take-append_seam (take at old ++ xs) rest in
-    let behind = drop-written_behind old xs at first_fits (at + length xs + length ys) (omega arith) in
+    let after = drop-written_after old xs at first_fits (at + length xs + length ys) (omega arith) in
     let sum : at + length xs + length ys ≡ at + length (xs ++ ys) = omega (arith, length-append xs ys) in
-    rw (front, behind) (
+    rw (front, after) (
     ap (λ t. t ++ drop (at + length xs + length ys) old) (append_assoc (take at old) xs ys)
     ∙ ap (λ n. take at old ++ (xs ++ ys) ++ drop n old) sum
     )

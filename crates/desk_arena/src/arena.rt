@@ -186,7 +186,7 @@ impl DocArena {
 
     /// Keeps the oldest of each list, as many as the mark says and no more than are there.
     pub fn rewind(&mut self, mark: Mark)
-        ensures kept { self.new ≡ oldest_part self.old mark }
+        ensures preserved { self.new ≡ oldest_part self.old mark }
         ensures within { IsWithinCapacity self.new }
     {
         self.nodes = self.nodes.min(mark.nodes as usize);

@@ -11,7 +11,7 @@ use Rattle.desk_incidents.specs.declared.incident.Linked.{Linked}
 use Rattle.desk_types.specs.MergedNumber.{number_after_merge}
 use Rattle.desk_incidents.specs.Checks.{is_unmerged}
 use Rattle.desk_incidents.specs.Links.{same_link, new_link, has_link, link_after_merge, links_after_merge}
-use Rattle.desk_incidents.proofs.FirstLinks.{with_link, moved_behind, moved_behind-none}
+use Rattle.desk_incidents.proofs.FirstLinks.{with_link, moved_after, moved_after-none}
 use Rattle.desk_board.specs.Consistency.{has_incident, ConsistentLinks}
 use Rattle.desk_board.proofs.ChangedLists.{AllPairs-push, none_passes}
 
@@ -102,17 +102,17 @@ with_link-consistent incidents seen l o s h =
     let parts : ((l.incident == l.other) ≡ false) × (has_link l seen ≡ false) = or_parts _ _ t in
     ConsistentLinks-push incidents seen l (omega (arith, o, eqb-false _ _ parts.0)) s parts.1 h)
 
-moved_behind-consistent : (a b : ℕ) (incidents changed : List Incident) →
+moved_after-consistent : (a b : ℕ) (incidents changed : List Incident) →
     ((n : ℕ) → has_incident is_unmerged n incidents ≡ true →
     has_incident is_unmerged (number_after_merge a b n) changed ≡ true) →
     (seen linked : List Linked) → All (IsLinkOf incidents) linked →
-    ConsistentLinks changed seen → ConsistentLinks changed (moved_behind a b seen linked)
-moved_behind-consistent a b incidents changed w seen [] h k = k
-moved_behind-consistent a b incidents changed w seen (l ∷ linked) h k =
+    ConsistentLinks changed seen → ConsistentLinks changed (moved_after a b seen linked)
+moved_after-consistent a b incidents changed w seen [] h k = k
+moved_after-consistent a b incidents changed w seen (l ∷ linked) h k =
     let x : ℕ = number_after_merge a b l.incident in
     let y : ℕ = number_after_merge a b l.other in
     let first : IsLinkOf incidents l = All-head (IsLinkOf incidents) l linked h in
-    moved_behind-consistent a b incidents changed w (with_link seen (link_after_merge a b l)) linked
+    moved_after-consistent a b incidents changed w (with_link seen (link_after_merge a b l)) linked
     (All-tail (IsLinkOf incidents) l linked h)
     (with_link-consistent changed seen (link_after_merge a b l) (new_link-ordered x y)
     (new_link-has_incident changed x y (w l.incident first.0) (w l.other first.1)) k)
@@ -122,5 +122,5 @@ pub ConsistentLinks-merge : (a b : ℕ) (incidents changed : List Incident) (lin
     has_incident is_unmerged (number_after_merge a b n) changed ≡ true) →
     ConsistentLinks incidents linked → ConsistentLinks changed (links_after_merge a b linked)
 ConsistentLinks-merge a b incidents changed linked w h =
-    subst (ConsistentLinks changed) (moved_behind-none a b linked)
-    (moved_behind-consistent a b incidents changed w [] linked h.on_board (ConsistentLinks-empty changed))
+    subst (ConsistentLinks changed) (moved_after-none a b linked)
+    (moved_after-consistent a b incidents changed w [] linked h.on_board (ConsistentLinks-empty changed))

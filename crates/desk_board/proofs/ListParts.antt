@@ -38,8 +38,8 @@ all_taken (suc k) zero (x ∷ xs) e h = absurd (omega (arith, h))
 all_taken (suc k) (suc most) (x ∷ xs) e h =
     let r = all_taken k most xs e (omega (arith, h)) in (ap (λ l. x ∷ l) r.0, r.1)
 
-kept : {A : Type 0} (p : A → Bool) (x : A) (xs : List A) → p x ≡ true → filter p (x ∷ xs) ≡ x ∷ filter p xs
-kept p x xs e = rw e refl
+preserved : {A : Type 0} (p : A → Bool) (x : A) (xs : List A) → p x ≡ true → filter p (x ∷ xs) ≡ x ∷ filter p xs
+preserved p x xs e = rw e refl
 
 left_out : {A : Type 0} (p : A → Bool) (x : A) (xs : List A) → p x ≡ false → filter p (x ∷ xs) ≡ filter p xs
 left_out p x xs e = rw e refl
@@ -66,7 +66,7 @@ module _ {A B : Type 0} (p : A → Bool) (f : A → B) (most : ℕ) (all : List 
   found : (i : ℕ) (listed : List B) (x : A) → i < length all → x ≡ slice_index_or all i x → p x ≡ true →
       IsPartAt i listed → drop (length listed) (filter p all) ≡ x ∷ filter p (drop (suc i) all)
   found i listed x h e q l =
-      sym l.1 ∙ ap (filter p) (item i all x h e) ∙ kept p x (drop (suc i) all) q
+      sym l.1 ∙ ap (filter p) (item i all x h e) ∙ preserved p x (drop (suc i) all) q
 
   pub part_adds : (i : ℕ) (listed : List B) (x : A) → i < length all → x ≡ slice_index_or all i x → p x ≡ true →
       length listed ≢ most → IsPartAt i listed → IsPartAt (suc i) (listed ++ f x ∷ [])

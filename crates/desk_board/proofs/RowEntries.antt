@@ -14,8 +14,8 @@ use Rattle.desk_board.specs.Execute.{has_client, with_row}
 use Rattle.desk_board.specs.Tables.{row_in, last_in}
 
 -- what is told of a row
-abbrev told : Row → ℕ × ℕ × Reply
-told row = (row.number, row.place, row.reply)
+abbrev reported : Row → ℕ × ℕ × Reply
+reported row = (row.number, row.place, row.reply)
 
 insert_step : (t : Bool) (client : ℕ) (row : LatestRow) (e : ℕ × LatestRow) (es rest : List (ℕ × LatestRow)) →
     (t ≡ true → client ≡ e.0) →
@@ -36,20 +36,21 @@ insert-with_row client row (e ∷ es) =
     (row_in e ∷ with_row (row_in (client, row)) (map row_in es))) (nat_eq_equiv.symm client e.0)
 
 last_step : (t : Bool) (e : ℕ × LatestRow) (found : Option Row) (looked : Option LatestRow) →
-    option_map {U = ℕ × ℕ × Reply} last_in looked ≡ option_map told found →
-    option_map {U = ℕ × ℕ × Reply} last_in (cond t (Some e.1) looked) ≡ option_map told (cond t (Some (row_in e)) found)
+    option_map {U = ℕ × ℕ × Reply} last_in looked ≡ option_map reported found →
+    option_map {U = ℕ × ℕ × Reply} last_in (cond t (Some e.1) looked) ≡ option_map reported
+    (cond t (Some (row_in e)) found)
 last_step true e found looked h = refl
 last_step false e found looked h = h
 
 -- a look-up finds the client's row
 pub lookup-find : (client : ℕ) (es : List (ℕ × LatestRow)) →
     option_map {U = ℕ × ℕ × Reply} last_in (lookup (nat_eq client) es)
-    ≡ option_map told (find (has_client client) (map row_in es))
+    ≡ option_map reported (find (has_client client) (map row_in es))
 lookup-find client [] = refl
 lookup-find client (e ∷ es) =
     last_step (nat_eq client e.0) e (find (has_client client) (map row_in es)) (lookup (nat_eq client) es)
     (lookup-find client es)
-    ∙ ap (λ t. option_map told (cond t (Some (row_in e)) (find (has_client client) (map row_in es))))
+    ∙ ap (λ t. option_map reported (cond t (Some (row_in e)) (find (has_client client) (map row_in es))))
     (nat_eq_equiv.symm client e.0)
 
 -- what is told of a lent entry is told of a copy

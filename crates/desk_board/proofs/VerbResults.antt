@@ -24,16 +24,16 @@ settles_units board check did after new (Err WantOfMemory) h = ap (λ c. with_un
 settles_units board check did after new (Err refused) h = (h.0, ap (λ c. with_units c board) h.1)
 
 -- the same after a check that passed
-pub settles_behind : {A : Type 0} (first rest : Option Refusal) (did : Done) (after old new : A)
+pub settles_after : {A : Type 0} (first rest : Option Refusal) (did : Done) (after old new : A)
     (result : Result Done Refusal) → first ≡ None → VerbOutcome rest did after old new result →
     VerbOutcome (first or_else rest) did after old new result
-settles_behind first rest did after old new result h k = rw h k
+settles_after first rest did after old new result h k = rw h k
 
 -- A check that failed refuses the verb.
-pub settles_failed : {A : Type 0} (check : Option Refusal) (did : Done) (after old : A) (failed told : Refusal)
-    (result : Result Done Refusal) → IsCheckResult {A = Unit} check (Err failed) → result ≡ Err told →
-    told ≡ failed → VerbOutcome check did after old old result
-settles_failed check did after old failed told result h e same = rw (e, same) (refused failed h)
+pub settles_failed : {A : Type 0} (check : Option Refusal) (did : Done) (after old : A) (failed reported : Refusal)
+    (result : Result Done Refusal) → IsCheckResult {A = Unit} check (Err failed) → result ≡ Err reported →
+    reported ≡ failed → VerbOutcome check did after old old result
+settles_failed check did after old failed reported result h e same = rw (e, same) (refused failed h)
   where
     refused : (r : Refusal) → IsCheckResult {A = Unit} check (Err r) → VerbOutcome check did after old old (Err r)
     refused WantOfMemory k = refl
@@ -45,8 +45,9 @@ failed_first first rest WantOfMemory h = tt
 failed_first first rest failed h = rw h refl
 
 -- the same of the first of two checks, whatever the second says
-pub settles_refused : {A : Type 0} (first rest : Option Refusal) (did : Done) (after old : A) (failed told : Refusal)
-    (result : Result Done Refusal) → IsCheckResult {A = Unit} first (Err failed) → result ≡ Err told →
-    told ≡ failed → VerbOutcome (first or_else rest) did after old old result
-settles_refused first rest did after old failed told result h =
-    settles_failed (first or_else rest) did after old failed told result (failed_first first rest failed h)
+pub settles_refused : {A : Type 0} (first rest : Option Refusal) (did : Done) (after old : A)
+    (failed reported : Refusal)
+    (result : Result Done Refusal) → IsCheckResult {A = Unit} first (Err failed) → result ≡ Err reported →
+    reported ≡ failed → VerbOutcome (first or_else rest) did after old old result
+settles_refused first rest did after old failed reported result h =
+    settles_failed (first or_else rest) did after old failed reported result (failed_first first rest failed h)

@@ -20,7 +20,7 @@ use Rattle.desk_codec.specs.declared.TheConstants.{ENTRY_HEAD_BYTES}
 use Rattle.desk_codec.specs.declared.entry.EntryHead.{EntryHead}
 use Rattle.desk_codec.specs.declared.fault.Lack.{Lack}
 use Rattle.desk_codec.specs.declared.fault.Lack.TheVariants.{Needs, NoSpelling}
-use Rattle.desk_codec.specs.Entries.{told_head, fits_entry_head, front_entry_head, is_entry_in, EntryNeeds}
+use Rattle.desk_codec.specs.Entries.{announced_head, fits_entry_head, front_entry_head, is_entry_in, EntryNeeds}
 use Rattle.desk_codec.specs.Entries.{BeginsNoEntry}
 use Rattle.desk_codec.specs.Entries.{FrontEntry}
 use Rattle.desk_codec.specs.Ranges.{FitsEntry, FitsEntries}
@@ -86,15 +86,20 @@ by_test false h g e = absurd cc
 -- a head that was read
 record IsHead (bytes : List ℕ) (h : EntryHead) : Type 0 where
   long : 18 ≤ length bytes
-  told : told_head bytes ≡ h
+  announced : announced_head bytes ≡ h
   range : fits_entry_head h ≡ true
 
 head_is : (bytes : List ℕ) (h : EntryHead) → front_entry_head bytes ≡ Ok h → IsHead bytes h
 unfolding front_entry_head
 head_is bytes h e =
     by_length (ltb (length bytes) 18) _ (Ok h) e (λ is none. absurd cc) (λ is r.
-    let t = by_test (fits_entry_head (told_head bytes)) (told_head bytes) h r in
-    record { long = ltb-false _ _ is; told = t.1; range = subst (λ (g : EntryHead). fits_entry_head g ≡ true) t.1 t.0 })
+    let t = by_test (fits_entry_head (announced_head bytes)) (announced_head bytes) h r in
+    record {
+      long = ltb-false _ _ is;
+      announced = t.1;
+      range =
+          subst (λ (g : EntryHead). fits_entry_head g ≡ true) t.1 t.0;
+    })
 
 pub head_small : (bytes : List ℕ) (h : EntryHead) → front_entry_head bytes ≡ Ok h → h.body ≤ BODY_BYTES
 head_small bytes h e =
@@ -115,7 +120,7 @@ head_needs : (bytes : List ℕ) → front_entry_head bytes ≡ Err Needs → len
 unfolding front_entry_head
 head_needs bytes e =
     by_length (ltb (length bytes) 18) _ (Err Needs) e (λ is none. ltb-true _ _ is)
-    (λ is r. absurd (tested (fits_entry_head (told_head bytes)) (told_head bytes) r))
+    (λ is r. absurd (tested (fits_entry_head (announced_head bytes)) (announced_head bytes) r))
 
 no_head : (version : ℕ) (bytes : List ℕ) → front_entry_head bytes ≡ Err NoSpelling → BeginsNoEntry version bytes
 no_head version bytes none e more others f can h =
@@ -205,17 +210,17 @@ entry_found bytes h c is read le spells =
     let body : length (body_at bytes h) ≡ h.body =
     length-take-le h.body (drop 18 bytes) (omega (arith, le, length-drop 18 bytes)) in
     let first : long h.client ≡ take 8 bytes =
-    ap (λ (g : EntryHead). long g.client) (sym i.told)
+    ap (λ (g : EntryHead). long g.client) (sym i.announced)
     ∙ wide64.back (take 8 bytes) (length-take-le 8 bytes (omega (arith, le))) (IsBytes-take 8 bytes is) in
     let x = drop 8 bytes in
     let x_bytes = IsBytes-drop 8 bytes is in
     let second : long h.number ≡ take 8 x =
-    ap (λ (g : EntryHead). long g.number) (sym i.told)
+    ap (λ (g : EntryHead). long g.number) (sym i.announced)
     ∙ wide64.back (take 8 x) (length-take-le 8 x (omega (arith, le, length-drop 8 bytes))) (IsBytes-take 8 x x_bytes) in
     let y = drop 16 bytes in
     let split : 18 + h.body ≡ 8 + (8 + (2 + h.body)) = omega arith in
     let third : to_be_bytes w16 (length (body_spelling c)) ≡ take 2 y =
-    ap (to_be_bytes w16) (ap length (sym spells.spelling) ∙ body ∙ ap (λ (g : EntryHead). g.body) (sym i.told))
+    ap (to_be_bytes w16) (ap length (sym spells.spelling) ∙ body ∙ ap (λ (g : EntryHead). g.body) (sym i.announced))
     ∙ wide16.back (take 2 y) (length-take-le 2 y (omega (arith, le, length-drop 16 bytes)))
     (IsBytes-take 2 y (IsBytes-drop 16 bytes is)) in
     record {
@@ -243,9 +248,9 @@ entries_begin_none e f x y r s p q h =
     ∙ head_again f s q.fits) in
     let n : length (body_spelling e.command) ≡ length (body_spelling f.command) =
     ap (λ (g : EntryHead). g.body) head in
-    let behind : body_spelling e.command ++ r ≡ body_spelling f.command ++ s = ap (drop 18) same in
+    let after : body_spelling e.command ++ r ≡ body_spelling f.command ++ s = ap (drop 18) same in
     let body : body_spelling e.command ≡ body_spelling f.command =
-    sym (take_at (body_spelling e.command) r _ refl) ∙ ap (take (length (body_spelling e.command))) behind
+    sym (take_at (body_spelling e.command) r _ refl) ∙ ap (take (length (body_spelling e.command))) after
     ∙ take_at (body_spelling f.command) s _ (sym n) in
     let command : e.command ≡ f.command =
     (bodies_are_one e.command f.command (body_spelling e.command) (body_spelling f.command)
@@ -255,7 +260,7 @@ entries_begin_none e f x y r s p q h =
     ∙ ap (λ (c : Command). record { client = f.client; number = f.number; command = c }) command in (
       entry,
       p.spelling ∙ ap entry_spelling entry ∙ sym q.spelling,
-      sym (drop_at (body_spelling e.command) r _ refl) ∙ ap (drop (length (body_spelling e.command))) behind
+      sym (drop_at (body_spelling e.command) r _ refl) ∙ ap (drop (length (body_spelling e.command))) after
           ∙ drop_at (body_spelling f.command) s _ (sym n),
     )
 

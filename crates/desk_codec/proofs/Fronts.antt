@@ -55,8 +55,8 @@ same_ok x y e = ap (value_or x) e
 pub ok_err : {A : Type 0} (x : A) (lack : Lack) → found_as x ≡ Err lack → ⊥
 ok_err x lack e = cc
 
-abbrev behind : {A : Type 0} → List ℕ → A × List ℕ → Result (A × List ℕ) Lack
-behind more p = Ok (p.0, p.1 ++ more)
+abbrev after : {A : Type 0} → List ℕ → A × List ℕ → Result (A × List ℕ) Lack
+after more p = Ok (p.0, p.1 ++ more)
 
 abbrev left : {A : Type 0} → A × List ℕ → ℕ
 left p = length p.1
@@ -109,7 +109,7 @@ took_none {A = A} x bytes y e = record {
 -- what needs no byte: a test's outcome
 pub test_is_front : {A : Type 0} (b : Bool) (x : A) → IsFront 0 (λ bytes. cond b (Ok (x, bytes)) (Err NoSpelling))
 test_is_front true x = record {
-  found = λ bytes more y e. ap (behind more) (same_ok (x, bytes) y e);
+  found = λ bytes more y e. ap (after more) (same_ok (x, bytes) y e);
   never = λ bytes more e. absurd cc;
   needs = λ bytes e. absurd cc;
   back = λ bytes y e. took_none x bytes y (same_ok (x, bytes) y e);
@@ -132,7 +132,7 @@ pub maybe_is_front : {A : Type 0} {n : ℕ} {a : FrontReader A} (there : Bool) (
     IsFront n (front_maybe there other a)
 maybe_is_front true other h = h
 maybe_is_front false other h = record {
-  found = λ bytes more y e. ap (behind more) (same_ok (other, bytes) y e);
+  found = λ bytes more y e. ap (after more) (same_ok (other, bytes) y e);
   never = λ bytes more e. absurd cc;
   needs = λ bytes e. absurd cc;
   back = λ bytes y e. took_none other bytes y (same_ok (other, bytes) y e);
@@ -145,7 +145,7 @@ byte_is_front = record { found = found; never = never; needs = needs; back = bac
     found : (bytes more : List ℕ) (x : ℕ × List ℕ) → front_byte bytes ≡ Ok x → front_byte (bytes ++ more) ≡ Ok
         (x.0, x.1 ++ more)
     found [] more x e = absurd cc
-    found (b ∷ rest) more x e = ap (behind more) (same_ok (b, rest) x e)
+    found (b ∷ rest) more x e = ap (after more) (same_ok (b, rest) x e)
 
     never : (bytes more : List ℕ) → front_byte bytes ≡ Err NoSpelling → front_byte (bytes ++ more) ≡ Err NoSpelling
     never [] more e = absurd cc
@@ -192,7 +192,7 @@ number_is_front w = record {
       let p = wide_ok (ltb (length bytes) n) (from_be_bytes w (take n bytes), drop n bytes) x e in
       let le : n ≤ length bytes = ltb-false _ _ p.0 in
       let enough : ltb (length (bytes ++ more)) n ≡ false = le-ltb _ _ (omega (arith, le, length-append bytes more)) in
-      rw (enough, take-append-le n bytes more le, drop-append-le n bytes more le) (ap (behind more) p.1);
+      rw (enough, take-append-le n bytes more le, drop-append-le n bytes more le) (ap (after more) p.1);
   never = λ bytes more e. absurd (wide_never _ _ e);
   needs = λ bytes e. ltb-true _ _ (wide_needs _ _ e);
   back = λ bytes x e.

@@ -74,12 +74,12 @@ pub leads : (f : PacketStart) (es : List Entry) (left : ℕ) (x more others : Li
     LeadsTo f es x more others m
 leads f es left x more others m has fits h =
     let s = start_spelling f in
-    let behind = entries es ++ (x ++ more) in
-    let regrouped : (begun f es ++ x) ++ more ≡ s ++ behind =
+    let after = entries es ++ (x ++ more) in
+    let regrouped : (begun f es ++ x) ++ more ≡ s ++ after =
     append_assoc (begun f es) x more ∙ append_assoc s (entries es) (x ++ more) in
-    let same = same_ok (start_of m, entries (entries_of m) ++ others) (f, behind)
+    let same = same_ok (start_of m, entries (entries_of m) ++ others) (f, after)
     (sym (packet_reads (begun f es ++ x) more others m fits h) ∙ ap front_start regrouped
-    ∙ start_is_front.found s behind (f, []) has.reads) in
+    ∙ start_is_front.found s after (f, []) has.reads) in
     let start : start_of m ≡ f = ap (λ (p : PacketStart × List ℕ). p.0) same in
     let count : f.count ≡ length (entries_of m) =
     sym (ap (λ (g : PacketStart). g.count) start) ∙ count_in (version_of m) m in

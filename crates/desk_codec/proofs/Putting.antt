@@ -12,14 +12,14 @@ use Rattle.desk_types.specs.declared.verb.Verb.{Verb}
 use Rattle.desk_codec.specs.Growing.{Grows}
 use Rattle.desk_codec.specs.Ranges.{FitsSeconds, FitsCommand, FitsEntry, FitsEntries, FitsLog}
 use Rattle.desk_codec.specs.Spelling.{made_at, sized, entry_spelling}
-use Rattle.desk_codec.proofs.Growing.{put_behind}
+use Rattle.desk_codec.proofs.Growing.{put_after}
 
 -- what was put in three parts
 pub put_third : {A E : Type 0} (result : Result A E) (old one two new first second third : List ℕ) →
     one ≡ old ++ first → two ≡ one ++ second → OnOk result (new ≡ two ++ third)
     → OnOk result (new ≡ old ++ (first ++ (second ++ third)))
 put_third result old one two new first second third e f g =
-    put_behind result old one new first (second ++ third) e (put_behind result one two new second third f g)
+    put_after result old one new first (second ++ third) e (put_after result one two new second third f g)
 
 -- what was put in four parts
 pub put_fourth : {A E : Type 0} (result : Result A E) (old one two three new first second third fourth : List ℕ) →
@@ -27,7 +27,7 @@ pub put_fourth : {A E : Type 0} (result : Result A E) (old one two three new fir
     → OnOk result (new ≡ old ++ (first ++ (second ++ (third ++ fourth))))
 put_fourth result old one two three new first second third fourth e f g h =
     put_third result old one two new first second (third ++ fourth) e f
-    (put_behind result two three new third fourth g h)
+    (put_after result two three new third fourth g h)
 
 -- what was put in five parts
 pub put_fifth : {A E : Type 0} (result : Result A E)
@@ -37,7 +37,7 @@ pub put_fifth : {A E : Type 0} (result : Result A E)
     → OnOk result (new ≡ old ++ (first ++ (second ++ (third ++ (fourth ++ fifth)))))
 put_fifth result old one two three four new first second third fourth fifth e f g h i =
     put_fourth result old one two three new first second third (fourth ++ fifth) e f g
-    (put_behind result three four new fourth fifth h i)
+    (put_after result three four new fourth fifth h i)
 
 -- what was put, told by what it is the same as
 pub put_same : {A E : Type 0} (result : Result A E) (old new first second : List ℕ) → first ≡ second
@@ -51,7 +51,7 @@ pub put_past_two : {A E : Type 0} (result : Result A E) (old between new first s
     → OnOk result (new ≡ old ++ (first ++ (second ++ third)))
 put_past_two result old between new first second third e f =
     put_same result old new ((first ++ second) ++ third) (first ++ (second ++ third)) (append_assoc first second third)
-    (put_behind result old between new (first ++ second) third e f)
+    (put_after result old between new (first ++ second) third e f)
 
 -- what was put after three parts
 pub put_past_three : {A E : Type 0} (result : Result A E) (old between new first second third fourth : List ℕ) →

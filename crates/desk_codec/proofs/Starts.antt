@@ -35,7 +35,7 @@ use Rattle.desk_codec.specs.Starts.{front_entry_count, start_with}
 use Rattle.desk_codec.specs.Starts.{has_first_number, has_second_number, has_entry_count, lone_entries}
 use Rattle.desk_codec.specs.Starts.{is_first_number, is_entry_count, if_there, head_spelling}
 use Rattle.desk_codec.specs.Starts.{start_spelling, start_of, start_in, tells_new_place, NoStart, FrontStart, FitsKind}
-use Rattle.desk_codec.proofs.Versions.{one_told, two_told, state_told}
+use Rattle.desk_codec.proofs.Versions.{one_announced, two_announced, state_announced}
 use Rattle.desk_codec.proofs.Fronts.{IsFront, then_is_front, test_is_front, checked_is_front, maybe_is_front}
 use Rattle.desk_codec.proofs.Fronts.{byte_is_front, number_is_front}
 use Rattle.desk_codec.proofs.Fronts.{bind_ok, wide_ok, same_ok, found_as}
@@ -252,21 +252,21 @@ ranges_in : (version : ℕ) → is_version version ≡ true → (m : Message) �
     InRange (start_in version m)
 unfolding start_in is_first_number is_entry_count tells_new_place kind_of_number
 ranges_in version known (Prepare from view place commit entry) has f =
-    let told = two_told version place commit (list_any is_new_entry (entry ∷ [])) has f.range.2 f.range.3 in
+    let announced = two_announced version place commit (list_any is_new_entry (entry ∷ [])) has f.range.2 f.range.3 in
     let some : nat_le 1 place ≡ true = grind (arith, nat_tests, f.range.1) in
     record {
       version = known;
       kind = refl;
       view = f.range.0;
-      first = (omega (arith, f.range.2), and_from (nat_le 1 place) (is_place_in version place) some told.0);
-      second = (omega (arith, f.range.3), told.1);
+      first = (omega (arith, f.range.2), and_from (nat_le 1 place) (is_place_in version place) some announced.0);
+      second = (omega (arith, f.range.3), announced.1);
       count = refl;
     }
 ranges_in version known (PrepareOk from view place) has f = record {
   version = known;
   kind = refl;
   view = f.range.0;
-  first = (omega (arith, f.range.1), one_told version place false has f.range.1);
+  first = (omega (arith, f.range.1), one_announced version place false has f.range.1);
   second = refl;
   count = refl;
 }
@@ -274,7 +274,7 @@ ranges_in version known (Commit from view commit) has f = record {
   version = known;
   kind = refl;
   view = f.range.0;
-  first = (omega (arith, f.range.1), one_told version commit false has f.range.1);
+  first = (omega (arith, f.range.1), one_announced version commit false has f.range.1);
   second = refl;
   count = refl;
 }
@@ -289,7 +289,7 @@ ranges_in version known (StartViewChange from view) has f = record {
 ranges_in version known (DoViewChange from view normal commit log) has f =
     let n = length log in
     let le : commit ≤ LOG_ENTRIES = omega (arith, f.range.2, f.range.3) in
-    let told = two_told version commit n (list_any is_new_entry log) has le f.range.3 in
+    let announced = two_announced version commit n (list_any is_new_entry log) has le f.range.3 in
     let a : ltb normal view ≡ true = grind (arith, nat_tests, f.range.1) in
     let b : nat_le commit n ≡ true = grind (arith, nat_tests, f.range.2) in
     record {
@@ -297,27 +297,27 @@ ranges_in version known (DoViewChange from view normal commit log) has f =
       kind = refl;
       view = f.range.0;
       first = (omega (arith, f.range.0, f.range.1), a);
-      second = (omega (arith, le), told.0);
-      count = (omega (arith, f.range.3), and_from (nat_le commit n) (is_place_in version n) b told.1);
+      second = (omega (arith, le), announced.0);
+      count = (omega (arith, f.range.3), and_from (nat_le commit n) (is_place_in version n) b announced.1);
     }
 ranges_in version known (StartView from view commit log) has f =
     let n = length log in
     let le : commit ≤ LOG_ENTRIES = omega (arith, f.range.1, f.range.2) in
-    let told = two_told version commit n (list_any is_new_entry log) has le f.range.2 in
+    let announced = two_announced version commit n (list_any is_new_entry log) has le f.range.2 in
     let b : nat_le commit n ≡ true = grind (arith, nat_tests, f.range.1) in
     record {
       version = known;
       kind = refl;
       view = f.range.0;
-      first = (omega (arith, le), told.0);
+      first = (omega (arith, le), announced.0);
       second = refl;
-      count = (omega (arith, f.range.2), and_from (nat_le commit n) (is_place_in version n) b told.1);
+      count = (omega (arith, f.range.2), and_from (nat_le commit n) (is_place_in version n) b announced.1);
     }
 ranges_in version known (GetState from view base) has f = record {
   version = known;
   kind = refl;
   view = f.range.0;
-  first = (omega (arith, f.range.1), one_told version base false has f.range.1);
+  first = (omega (arith, f.range.1), one_announced version base false has f.range.1);
   second = refl;
   count = refl;
 }
@@ -325,19 +325,19 @@ ranges_in version known (NewState from view base commit entries) has f =
     let n = length entries in
     let lb : base ≤ LOG_ENTRIES = omega (arith, f.range.2) in
     let lc : commit ≤ LOG_ENTRIES = omega (arith, f.range.1, f.range.2) in
-    let told = state_told version base commit n (list_any is_new_entry entries) has lc f.range.2 in
+    let announced = state_announced version base commit n (list_any is_new_entry entries) has lc f.range.2 in
     let l : is_log_length base ≡ true = grind (arith, nat_tests, lb) in
     let b : nat_le commit (base + n) ≡ true = grind (arith, nat_tests, f.range.1) in
     record {
       version = known;
       kind = refl;
       view = f.range.0;
-      first = (omega (arith, lb), told.0);
-      second = (omega (arith, lc), told.1);
+      first = (omega (arith, lb), announced.0);
+      second = (omega (arith, lc), announced.1);
       count = (
         omega (arith, f.range.2),
         and_from (is_log_length base) (is_place_in version (base + n) && nat_le commit (base + n)) l
-            (and_from (is_place_in version (base + n)) (nat_le commit (base + n)) told.2 b),
+            (and_from (is_place_in version (base + n)) (nat_le commit (base + n)) announced.2 b),
       );
     }
 

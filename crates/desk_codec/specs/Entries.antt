@@ -14,8 +14,8 @@ use Rattle.desk_codec.specs.Spelling.{SpellsEntry, entry_spelling}
 use Rattle.desk_codec.specs.Version.{is_new_entry}
 
 -- what an entry's first bytes tell
-abbrev pub told_head : List ℕ → EntryHead
-told_head bytes = record {
+abbrev pub announced_head : List ℕ → EntryHead
+announced_head bytes = record {
   client = from_be_bytes w64 (take 8 bytes);
   number = from_be_bytes w64 (take 8 (drop 8 bytes));
   body = from_be_bytes w16 (take 2 (drop 16 bytes));
@@ -30,7 +30,7 @@ fits_entry_head h =
 unfoldable pub front_entry_head : List ℕ → Result EntryHead Lack
 front_entry_head bytes =
     if nat_lt (length bytes) ENTRY_HEAD_BYTES then Err Needs
-    else if fits_entry_head (told_head bytes) then Ok (told_head bytes) else Err NoSpelling
+    else if fits_entry_head (announced_head bytes) then Ok (announced_head bytes) else Err NoSpelling
 
 -- whether a packet of this version can have an entry
 abbrev pub is_entry_in : ℕ → Entry → Bool

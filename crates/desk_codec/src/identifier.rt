@@ -89,9 +89,9 @@ pub(crate) fn read_optional_call(
     ensures { Gives (λ x. (x.0, x.1.now)) result (first_optional kinds.Call bytes.now) }
 {
     match bytes {
-        [0, behind @ ..] => Ok((None, behind)),
-        [1, behind @ ..] => {
-            let (call, rest) = read_call(alloc, behind)?;
+        [0, after @ ..] => Ok((None, after)),
+        [1, after @ ..] => {
+            let (call, rest) = read_call(alloc, after)?;
             Ok((Some(call), rest))
         }
         _ => Err(SpellingFault::NoSpelling),

@@ -115,7 +115,7 @@ pub fn packet_of(start: PacketStart, entries: Vec<Entry>) -> Option<Packet>
 }
 
 /// The bytes from a place on.
-fn behind(bytes: &[u8], at: usize) -> &[u8]
+fn after(bytes: &[u8], at: usize) -> &[u8]
     requires { at ≤ length bytes.now }
     ensures { result.now ≡ drop at bytes.now }
 {
@@ -135,7 +135,7 @@ fn whole_packet(alloc: Global, bytes: &[u8]) -> Result<Option<Packet>, WantOfMem
     let mut at = count;
     let mut more = start.count;
     while more > 0 {
-        match front_entry(alloc, start.head.version, behind(bytes, at))? {
+        match front_entry(alloc, start.head.version, after(bytes, at))? {
             Ok((entry, size)) => {
                 entries.push(entry)?;
                 at += size;

@@ -51,16 +51,16 @@ module _ {D : Type 0} {g : disk.Ghosts D} {files read : Files D} (log : OnlyRead
   before image may = (log.crash _ may.0, db.crash _ may.1)
 
   pub left_by_kit : (rest : Leftover D g) → LeavesFiles read rest → LeavesOpening files rest
-  left_by_kit (left.Files now) kept = λ image may. before image (kept image may)
-  left_by_kit (left.Store now) kept = λ found may.
+  left_by_kit (left.Files now) preserved = λ image may. before image (preserved image may)
+  left_by_kit (left.Store now) preserved = λ found may.
       let same = same_image log db in
-      let it = kept found may in (
+      let it = preserved found may in (
         inl (subst (λ i. AreFoundIn i found) same it.0),
         λ held h. it.1 held (subst (λ i. HoldsDatabase i held) (sym same) h),
       )
-  left_by_kit (left.Unopened now) kept =
+  left_by_kit (left.Unopened now) preserved =
       let same = same_image log db in
-      inr (elim kept [
+      inr (elim preserved [
         | inl nothing ↦ inl (
           subst IsNothing same nothing.0,
           λ image may. elim (nothing.1 image may) [ inl was ↦ inl (before image was) | inr way ↦ inr way ],
@@ -85,9 +85,9 @@ module _ {D : Type 0} {g : disk.Ghosts D} {files read : Files D} (log : OnlyRead
 
   pub left_unmade : (rest : Leftover D g) → IsUnmade (image_of g files) → LeavesUnmade read rest
       → LeavesOpening files rest
-  left_unmade (left.Files now) unmade kept = λ image may. before image (kept image may)
-  left_unmade (left.Unopened now) unmade kept =
-      inl (unmade, λ image may. elim (kept image may) [ inl was ↦ inl (before image was) | inr way ↦ inr way ])
-  left_unmade (left.Store now) unmade kept =
+  left_unmade (left.Files now) unmade preserved = λ image may. before image (preserved image may)
+  left_unmade (left.Unopened now) unmade preserved =
+      inl (unmade, λ image may. elim (preserved image may) [ inl was ↦ inl (before image was) | inr way ↦ inr way ])
+  left_unmade (left.Store now) unmade preserved =
       λ found may.
-      (inr (unmade, kept found may), λ held h. absurd (made_is_not_unmade (image_of g files) held h unmade))
+      (inr (unmade, preserved found may), λ held h. absurd (made_is_not_unmade (image_of g files) held h unmade))

@@ -53,7 +53,7 @@ second_full : (between old first second both : ℕ) → between + first ≡ old 
 second_full between old first second both e f = (λ h. omega arith, λ h. omega arith)
 
 module _ {E : Type 0} (d : Data) (name : Text) (a b new : Contents) (node : Node) (size : ℕ)
-    (whole : with_copy d name a ≡ with_node b node) (kept : IsPartOf a b) (left : room b + size ≡ room a)
+    (whole : with_copy d name a ≡ with_node b node) (preserved : IsPartOf a b) (left : room b + size ≡ room a)
     (takes : room_of d ≡ size + NODE_BYTES) (utf8 : HasUtf8Texts d) (names : HasDistinctNames d)
     (capacity : b.capacity ≡ a.capacity) where
   -- a copy that ends with a node, after what is inside it
@@ -81,7 +81,7 @@ module _ {E : Type 0} (d : Data) (name : Text) (a b new : Contents) (node : Node
         names = tt;
         full = (λ h. fits.0 (p.full.0 h), λ h. p.full.1 (fits.1 h));
         begun = (
-          subst (IsPartOf a) (sym p.err) kept,
+          subst (IsPartOf a) (sym p.err) preserved,
           subst (λ z. IsPartOf z (with_copy d name a)) (sym p.err)
               (subst (IsPartOf b) (sym whole) (IsPartOf-with_node b node)),
         );
@@ -95,11 +95,11 @@ pub ended_by : {E : Type 0} (r : Result NodeId E) (d v : Data) (name : Text) (a 
     with_copy v name a ≡ with_node inside (made (length a.nodes)) → b ≡ inside → IsPartOf a inside →
     room b + size ≡ room a → room_of v ≡ size + NODE_BYTES → HasUtf8Texts v → HasDistinctNames v →
     b.capacity ≡ a.capacity → IsCopyOf r d name a new
-ended_by r d v name a inside b new node made start size p node_is start_is is whole b_is kept left takes utf8 names
+ended_by r d v name a inside b new node made start size p node_is start_is is whole b_is preserved left takes utf8 names
     capacity =
     subst (λ w. IsCopyOf r w name a new) (sym is) (ended v name a b new node size
     (whole ∙ ap (with_node inside) (sym (node_is ∙ ap made start_is)) ∙ ap (λ z. with_node z node) (sym b_is))
-    (subst (IsPartOf a) (sym b_is) kept) left takes utf8 names capacity r p)
+    (subst (IsPartOf a) (sym b_is) preserved) left takes utf8 names capacity r p)
 
 -- a copy of which a part did not fit
 refused : {E : Type 0} (r : Result NodeId E) (d : Data) (name : Text) (a inside new : Contents) → IsErr r →

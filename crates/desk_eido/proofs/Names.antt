@@ -8,13 +8,13 @@ use Rattle.serde_json.specs.View.{members_view}
 use Rattle.serde_json.proofs.Views.{Entry}
 use Rattle.desk_eido.specs.Names.{HaveDistinctNames}
 
-not_behind : (k : String Global) (es : List Entry) → AllByRecursion (λ y. string_cmp k y ≡ Less) (keys_of es) →
+not_after : (k : String Global) (es : List Entry) → AllByRecursion (λ y. string_cmp k y ≡ Less) (keys_of es) →
     get_member (string_bytes k) (members_view es) ≡ None
-not_behind k [] h = refl
-not_behind k (e ∷ es) h = rw h.0 (not_behind k es h.1)
+not_after k [] h = refl
+not_after k (e ∷ es) h = rw h.0 (not_after k es h.1)
 
 pub distinct-sorted : (es : List Entry) → IsStrictlySortedBy string_cmp (keys_of es) →
     HaveDistinctNames (members_view es)
 unfolding IsStrictlySortedBy
 distinct-sorted [] h = tt
-distinct-sorted (e ∷ es) h = (not_behind e.0 es h.0, distinct-sorted es h.1)
+distinct-sorted (e ∷ es) h = (not_after e.0 es h.0, distinct-sorted es h.1)

@@ -82,17 +82,17 @@ with_both [] ns ts = refl
 with_both (m ∷ ms) ns ts = with_both ms ns (with_content m.0 m.1 ts)
 
 -- a refusal, with the members that stand before its number and after it
-pub refusal_is : (r : Refusal) (before behind : List ReplyMember) (ts : List Token) →
-    with_all (last_details r) (with_all behind (with_content (codes "refusal") (count (refusal_number r))
+pub refusal_is : (r : Refusal) (before after : List ReplyMember) (ts : List Token) →
+    with_all (last_details r) (with_all after (with_content (codes "refusal") (count (refusal_number r))
     (with_all before (with_all (first_details r) ts))))
-    ≡ with_all (refusal_members r before behind) ts
-refusal_is r before behind ts =
+    ≡ with_all (refusal_members r before after) ts
+refusal_is r before after ts =
     let number : ReplyMember = (codes "refusal", count (refusal_number r)) in
     let first = with_all (first_details r) ts in
     sym (
-    with_both (first_details r) (before ++ (number ∷ (behind ++ last_details r))) ts
-    ∙ with_both before (number ∷ (behind ++ last_details r)) first
-    ∙ with_both behind (last_details r) (with_content number.0 number.1 (with_all before first))
+    with_both (first_details r) (before ++ (number ∷ (after ++ last_details r))) ts
+    ∙ with_both before (number ∷ (after ++ last_details r)) first
+    ∙ with_both after (last_details r) (with_content number.0 number.1 (with_all before first))
     )
 
 -- the four parts of an incident

@@ -130,8 +130,8 @@ last_details other = []
 
 -- the members that tell a refusal, among those that stand before `refusal` and those after it
 abbrev pub refusal_members : Refusal → List ReplyMember → List ReplyMember → List ReplyMember
-refusal_members r before behind =
-    first_details r ++ (before ++ ((codes "refusal", count (refusal_number r)) ∷ (behind ++ last_details r)))
+refusal_members r before after =
+    first_details r ++ (before ++ ((codes "refusal", count (refusal_number r)) ∷ (after ++ last_details r)))
 
 -- the client that a reply is for
 abbrev pub session_member : ℕ → List ReplyMember

@@ -58,7 +58,7 @@ pub fn copy_document(alloc: Global, line: &[u8], arena: &mut DocArena) -> Result
     ensures copied { CopiesAs result arena.old arena.new (fitted_document (room arena.old) line.now) }
     ensures object { IfOk result (λ id. IsCopied id arena.new) }
     // What the arena held stands in it as the oldest part.
-    ensures kept { IsPartOf arena.old arena.new }
+    ensures preserved { IsPartOf arena.old arena.new }
     // Only a copy that does not fit leaves a part of itself.
     ensures unchanged { IfErr result (λ r. r ≢ refusals.NoRoom → arena.new ≡ arena.old) }
     // No more is pushed than the copy.

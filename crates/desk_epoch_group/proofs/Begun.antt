@@ -28,7 +28,7 @@ use Rattle.desk_epochs.proofs.Epochs.{joined_push}
 use Rattle.desk_epoch_node.specs.declared.packet.EpochPacket.{EpochPacket}
 use Rattle.desk_epoch_node.specs.declared.step.EpochStep.{EpochStep}
 use Rattle.desk_epoch_node.specs.declared.step.EpochStep.TheVariants as steps
-use Rattle.desk_epoch_node.specs.Does.{BeginsBehind, IsOwn}
+use Rattle.desk_epoch_node.specs.Does.{BeginsAfter, IsOwn}
 use Rattle.desk_epoch_node.specs.Does.{is_due, next_view, node_in_view}
 use Rattle.desk_epoch_node.specs.EpochValue.{EpochValue, committed_cut, has_next, reaches_end}
 use Rattle.desk_epoch_node.specs.Laws.{suspected}
@@ -114,7 +114,7 @@ own_goes_on domain n most i old new d event value (steps.Own made) g o b m =
 own_goes_on domain n most i old new d event value steps.Nothing g o b m = absurd o
 own_goes_on domain n most i old new d event value (steps.Known client number place) g o b m = absurd o
 own_goes_on domain n most i old new d event value (steps.Refused client number refusal) g o b m = absurd o
-own_goes_on domain n most i old new d event value (steps.Kept entry) g o b m = absurd o
+own_goes_on domain n most i old new d event value (steps.Deferred entry) g o b m = absurd o
 own_goes_on domain n most i old new d event value (steps.Ask to packet) g o b m = absurd o
 own_goes_on domain n most i old new d event value (steps.Tell to epoch base) g o b m = absurd o
 own_goes_on domain n most i old new d event value (steps.Began log packets) g o b m = absurd o
@@ -147,14 +147,14 @@ pub no_packets : (domain : List ℕ) (n : ℕ) (d : Epochs) (to : ℕ) (p : Epoc
 no_packets domain n d to p c = absurd (Contains-none (to, p) c)
 
 -- A log more behind node i.
-pub with_log_behind : Epochs → ℕ → List Entry → Epochs
-with_log_behind d i log = record {
+pub with_log_after : Epochs → ℕ → List Entry → Epochs
+with_log_after d i log = record {
   runs = d.runs;
   pasts = λ j. if eqb j i then d.pasts j ++ log ∷ [] else d.pasts j;
 }
 
-pub goes_over : (d : Epochs) (i : ℕ) (log : List Entry) → GoesOver i log d (with_log_behind d i log)
-unfolding with_log_behind
+pub goes_over : (d : Epochs) (i : ℕ) (log : List Entry) → GoesOver i log d (with_log_after d i log)
+unfolding with_log_after
 goes_over d i log = record {
   here = ap (λ b. if b then d.pasts i ++ log ∷ [] else d.pasts i) (eq-eqb i i refl);
   there = λ j ne. ap (λ b. if b then d.pasts j ++ log ∷ [] else d.pasts j) (ne_eqb j i ne);
@@ -162,33 +162,33 @@ goes_over d i log = record {
 }
 
 same_worlds : (domain : List ℕ) (n : ℕ) (d : Epochs) (i : ℕ) (log : List Entry) (epoch : ℕ) →
-    epoch_world domain n (with_log_behind d i log) epoch ≡ epoch_world domain n d epoch
-unfolding with_log_behind
+    epoch_world domain n (with_log_after d i log) epoch ≡ epoch_world domain n d epoch
+unfolding with_log_after
 same_worlds domain n d i log epoch = refl
 
-same_runs : (d : Epochs) (i : ℕ) (log : List Entry) (epoch : ℕ) → (with_log_behind d i log).runs epoch ≡ d.runs epoch
-unfolding with_log_behind
+same_runs : (d : Epochs) (i : ℕ) (log : List Entry) (epoch : ℕ) → (with_log_after d i log).runs epoch ≡ d.runs epoch
+unfolding with_log_after
 same_runs d i log epoch = refl
 
 -- the desk in which node i has begun the next epoch
 begins_change : (domain : List ℕ) (n most i epoch view : ℕ) (d : Epochs) (log : List Entry) → IsGroup n → i < n →
     epoch ≡ length (d.pasts i) → view ≤ LAST_VIEW →
     node_of_world (epoch_world domain n d (epoch + 1)) i ≡ first_state →
-    NextEpochs domain (ending_after most) (λ e. n) d (with_log_behind d i log) →
+    NextEpochs domain (ending_after most) (λ e. n) d (with_log_after d i log) →
     Changes domain n most i (epoch + 1) d (log ∷ []) (suspected domain i n view) (view_requests i n 0 view)
 begins_change domain n most i epoch view d log group small at within fresh next =
-    let behind : Epochs = with_log_behind d i log in
-    let over : GoesOver i log d behind = goes_over d i log in
-    let count : epoch + 1 ≡ epoch_of behind i =
+    let after : Epochs = with_log_after d i log in
+    let over : GoesOver i log d after = goes_over d i log in
+    let count : epoch + 1 ≡ epoch_of after i =
     ap (λ k. k + 1) at ∙ (sym (length_push (d.pasts i) log)
     ∙ ap (λ (ls : List (List Entry)). length ls) (sym over.here)) in
-    let m : Leads domain n most i (epoch + 1) behind (suspected domain i n view) (view_requests i n 0 view) =
-    leads_suspicions domain n most i (epoch + 1) behind group small count
+    let m : Leads domain n most i (epoch + 1) after (suspected domain i n view) (view_requests i n 0 view) =
+    leads_suspicions domain n most i (epoch + 1) after group small count
     (ap (λ (w : World). node_of_world w i) (same_worlds domain n d i log (epoch + 1)) ∙ fresh) view within in
     record {
       count = suc m.count;
       later = m.later;
-      lead = (behind, next, m.lead);
+      lead = (after, next, m.lead);
       own_past = m.pasts_are i ∙ over.here;
       pasts_are = λ j ne. m.pasts_are j ∙ over.there j ne;
       elsewhere = λ k ne. m.elsewhere k ne ∙ same_runs d i log k;
@@ -225,7 +225,7 @@ first_goes_on : (domain : List ℕ) (n most i view : ℕ) (old new : EpochNodes)
     value.most ≡ (old.values i).most →
     value.node ≡ record { domain = domain; id = i; n = n; saved = in_view view initial_saved; heard = silence n } →
     ((x : ℕ × Message) → Contains packets x → Contains (view_requests i n 0 view) x) →
-    NextEpochs domain (ending_after most) (λ e. n) d (with_log_behind d i log) →
+    NextEpochs domain (ending_after most) (λ e. n) d (with_log_after d i log) →
     NodeBecomes n i old value (old.logs i ++ log ∷ []) (map (in_epoch ((old.values i).epoch + 1)) packets) new →
     GoesOn domain n most d new
 first_goes_on domain n most i view old new d log value packets group within g at stand same_most is sent next b =
@@ -255,8 +255,8 @@ first_node_is domain n i view node p q r =
 -- Node i begins the next epoch after a log that the desk lets it have behind it.
 pub begun_goes_on : (domain : List ℕ) (n most i : ℕ) (old new : EpochNodes) (d : Epochs) (log : List Entry)
     (value : EpochValue) (packets : List (ℕ × Message)) → IsGroupSize n → GroupStands domain n most old d →
-    BeginsBehind (joined_logs (old.logs i)) log (old.values i) value packets →
-    NextEpochs domain (ending_after most) (λ e. n) d (with_log_behind d i log) →
+    BeginsAfter (joined_logs (old.logs i)) log (old.values i) value packets →
+    NextEpochs domain (ending_after most) (λ e. n) d (with_log_after d i log) →
     NodeBecomes n i old value (old.logs i ++ log ∷ []) (map (in_epoch ((old.values i).epoch + 1)) packets) new →
     GoesOn domain n most d new
 begun_goes_on domain n most i old new d log value packets size g begun next b =
@@ -276,8 +276,8 @@ begun_goes_on domain n most i old new d log value packets size g begun next b =
 -- The same, but node i ends before it has saved anything there, and is started again.
 pub again_goes_on : (domain : List ℕ) (n most i : ℕ) (old new : EpochNodes) (d : Epochs) (log : List Entry)
     (value : EpochValue) (packets : List (ℕ × Message)) → IsGroupSize n → GroupStands domain n most old d →
-    BeginsBehind (joined_logs (old.logs i)) log (old.values i) value packets →
-    NextEpochs domain (ending_after most) (λ e. n) d (with_log_behind d i log) →
+    BeginsAfter (joined_logs (old.logs i)) log (old.values i) value packets →
+    NextEpochs domain (ending_after most) (λ e. n) d (with_log_after d i log) →
     NodeBecomes n i old (started_again value) (old.logs i ++ log ∷ []) [] new → GoesOn domain n most d new
 again_goes_on domain n most i old new d log value packets size g begun next b =
     let a = g.nodes i in
@@ -292,7 +292,7 @@ again_goes_on domain n most i old new d log value packets size g begun next b =
 -- A node that has committed the end of its epoch may begin the next.
 pub due_next : (domain : List ℕ) (n most i : ℕ) (old : EpochNodes) (d : Epochs) → GroupStands domain n most old d →
     is_due (old.values i) ≡ true →
-    NextEpochs domain (ending_after most) (λ e. n) d (with_log_behind d i (committed_cut (old.values i)))
+    NextEpochs domain (ending_after most) (λ e. n) d (with_log_after d i (committed_cut (old.values i)))
 due_next domain n most i old d g due =
     let a = g.nodes i in
     let e : EpochValue = old.values i in
@@ -313,5 +313,5 @@ due_next domain n most i old d g due =
     inr (inl (record {
       node = i;
       over = ended;
-      goes = subst (λ (es : List Entry). GoesOver i es d (with_log_behind d i cut)) cut_is (goes_over d i cut);
+      goes = subst (λ (es : List Entry). GoesOver i es d (with_log_after d i cut)) cut_is (goes_over d i cut);
     }))

@@ -49,7 +49,7 @@ use Rattle.desk_epoch_node.specs.declared.step.EpochStep.{EpochStep}
 use Rattle.desk_epoch_node.specs.declared.step.EpochStep.TheVariants as steps
 use Rattle.desk_epoch_node.specs.Deeds.{deed, deed_by, deed_here, looks_back, request_deed, packet_deed, taking}
 use Rattle.desk_epoch_node.specs.Deeds.{telling, asks_other, is_other}
-use Rattle.desk_epoch_node.specs.Does.{BeginsBehind, DoesDeed, IsOwn, IsBegun, IsTaken, Only, is_rest, whole_log}
+use Rattle.desk_epoch_node.specs.Does.{BeginsAfter, DoesDeed, IsOwn, IsBegun, IsTaken, Only, is_rest, whole_log}
 use Rattle.desk_epoch_node.specs.EpochValue.{EpochValue, committed_cut, has_next, reaches_end}
 use Rattle.desk_epoch_node.specs.PastRows.{StandFor, one_log_admission}
 use Rattle.desk_epoch_node.proofs.EpochEnds.{ends_by_count}
@@ -63,7 +63,7 @@ use Rattle.desk_epoch_group.proofs.Leads.{Leads, epoch_world, step_in, leads_non
 use Rattle.desk_epoch_group.proofs.Leads.{leads_resend, leads_suspect, leads_restart, leads_as}
 use Rattle.desk_epoch_group.proofs.Requests.{IsAdmitted, request_cases, admitted_is_new, past_rises}
 use Rattle.desk_epoch_group.proofs.Standing.{TellsPast, PacketStands, GroupStands, GoesOn}
-use Rattle.desk_epoch_group.proofs.Begun.{own_goes_on, stays_goes_on, no_packets, goes_over, with_log_behind}
+use Rattle.desk_epoch_group.proofs.Begun.{own_goes_on, stays_goes_on, no_packets, goes_over, with_log_after}
 use Rattle.desk_epoch_group.proofs.Begun.{begun_goes_on, again_goes_on, due_next}
 
 -- a step by which the node stays as it is
@@ -184,10 +184,10 @@ whole_is domain n most i old d packet group g t h =
     ∙ take-append-drop t.base t.log
 
 -- A node that is told the whole log of its epoch may begin the next.
-told_next : (domain : List ℕ) (n most i : ℕ) (old : EpochNodes) (d : Epochs) (packet : Message) (log : List Entry) →
+reported_next : (domain : List ℕ) (n most i : ℕ) (old : EpochNodes) (d : Epochs) (packet : Message) (log : List Entry) →
     GroupStands domain n most old d → (t : TellsPast d (old.values i).epoch packet) → log ≡ t.log →
-    NextEpochs domain (ending_after most) (λ e. n) d (with_log_behind d i log)
-told_next domain n most i old d packet log g t same =
+    NextEpochs domain (ending_after most) (λ e. n) d (with_log_after d i log)
+reported_next domain n most i old d packet log g t same =
     let a = g.nodes i in
     let at : (old.values i).epoch ≡ epoch_of d i =
     a.epoch_is ∙ ap (λ (ls : List (List Entry)). length ls) (sym a.pasts_are) in
@@ -211,15 +211,15 @@ begun_step : (domain : List ℕ) (n most i : ℕ) (old new : EpochNodes) (d : Ep
     GoesOn domain n most d new
 begun_step domain n most i old new d packet value (steps.Began log packets) whole size g t same (log_is, begun) b =
     begun_goes_on domain n most i old new d log value packets.items size g
-    (subst (λ (es : List Entry). BeginsBehind (joined_logs (old.logs i)) es (old.values i) value packets.items)
+    (subst (λ (es : List Entry). BeginsAfter (joined_logs (old.logs i)) es (old.values i) value packets.items)
     (sym log_is) begun)
-    (told_next domain n most i old d packet log g t (log_is ∙ same)) b
+    (reported_next domain n most i old d packet log g t (log_is ∙ same)) b
 begun_step domain n most i old new d packet value steps.Nothing whole size g t same o b = absurd o
 begun_step domain n most i old new d packet value (steps.Own made) whole size g t same o b = absurd o
 begun_step domain n most i old new d packet value (steps.Known client number place) whole size g t same o b = absurd o
 begun_step domain n most i old new d packet value (steps.Refused client number refusal) whole size g t same o b =
     absurd o
-begun_step domain n most i old new d packet value (steps.Kept entry) whole size g t same o b = absurd o
+begun_step domain n most i old new d packet value (steps.Deferred entry) whole size g t same o b = absurd o
 begun_step domain n most i old new d packet value (steps.Ask to asked) whole size g t same o b = absurd o
 begun_step domain n most i old new d packet value (steps.Tell to epoch base) whole size g t same o b = absurd o
 
@@ -344,7 +344,7 @@ abbrev IsAsked : Entry → Deed → Type 0
 IsAsked entry (Own event) = event ≡ events.Request entry
 IsAsked entry (Answer client number place) = Unit {0}
 IsAsked entry (Refuse client number refusal) = Unit {0}
-IsAsked entry (Keep kept) = Unit {0}
+IsAsked entry (Keep preserved) = Unit {0}
 IsAsked entry Ignore = ⊥
 IsAsked entry (Ask to) = ⊥
 IsAsked entry (Tell to epoch base) = ⊥
@@ -426,7 +426,7 @@ request_goes_on domain n most i old new d entry value step (Answer client number
     only_goes_on domain n most i old new d value _ step g refl (no_packets domain n d) does b
 request_goes_on domain n most i old new d entry value step (Refuse client number refusal) size g is same does b =
     only_goes_on domain n most i old new d value _ step g refl (no_packets domain n d) does b
-request_goes_on domain n most i old new d entry value step (Keep kept) size g is same does b =
+request_goes_on domain n most i old new d entry value step (Keep preserved) size g is same does b =
     only_goes_on domain n most i old new d value _ step g refl (no_packets domain n d) does b
 request_goes_on domain n most i old new d entry value step Ignore size g is same does b = absurd same
 request_goes_on domain n most i old new d entry value step (Ask to) size g is same does b = absurd same

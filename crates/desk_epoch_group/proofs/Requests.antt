@@ -111,15 +111,15 @@ past_rises domain n most i d count logs group has lead =
     rising_prefix (joined_logs logs) all
     (subst (λ (ls : List (List Entry)). IsLogPrefix (joined_logs ls) all) has begins) rises
   where
-    behind : (log xs ys : List Entry) → IsLogPrefix xs ys → IsLogPrefix (log ++ xs) (log ++ ys)
-    behind [] xs ys f = f
-    behind (e ∷ es) xs ys f = (refl, behind es xs ys f)
+    after : (log xs ys : List Entry) → IsLogPrefix xs ys → IsLogPrefix (log ++ xs) (log ++ ys)
+    after [] xs ys f = f
+    after (e ∷ es) xs ys f = (refl, after es xs ys f)
 
     joined_first : (domain : List ℕ) (n most : ℕ) (runs : ℕ → List WorldEvent) (epoch : ℕ) (past : List (List Entry))
         (i : ℕ) → IsLogPrefix (joined_logs past) (history domain (ending_after most) (λ k. n) runs epoch past i)
     joined_first domain n most runs epoch [] i = tt
     joined_first domain n most runs epoch (p ∷ ps) i =
-        behind p (joined_logs ps) (history domain (ending_after most) (λ k. n) runs (suc epoch) ps i)
+        after p (joined_logs ps) (history domain (ending_after most) (λ k. n) runs (suc epoch) ps i)
         (joined_first domain n most runs (suc epoch) ps i)
 
 -- tests that tell variants apart
@@ -159,8 +159,8 @@ below_latest past client place k f rising is there same = by_place (cases_lt k p
           later_is_greater past k place f l.entry rising before there l.there
               (same ∙ sym l.client_is),
         )
-    by_place (inr behind) =
-        let at : k ≡ place = omega (arith, behind, l.last k f there same) in
+    by_place (inr after) =
+        let at : k ≡ place = omega (arith, after, l.last k f there same) in
         let one : f ≡ l.entry = same_Some f l.entry (sym there ∙ (ap (entry_at past) at ∙ l.there)) in
         omega (arith, number, ap (λ (x : Entry). x.number) one)
 

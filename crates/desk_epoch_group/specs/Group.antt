@@ -13,7 +13,7 @@ use Rattle.desk_epoch_node.specs.declared.packet.Purpose.TheVariants as purposes
 use Rattle.desk_epoch_node.specs.declared.step.EpochStep.{EpochStep}
 use Rattle.desk_epoch_node.specs.declared.step.EpochStep.TheVariants as steps
 use Rattle.desk_epoch_node.specs.Deeds.{deed}
-use Rattle.desk_epoch_node.specs.Does.{BeginsBehind, DoesDeed, is_due, node_in_view, past_log_packet}
+use Rattle.desk_epoch_node.specs.Does.{BeginsAfter, DoesDeed, is_due, node_in_view, past_log_packet}
 use Rattle.desk_epoch_node.specs.EpochValue.{EpochValue, committed_cut}
 use Rattle.desk_epoch_node.specs.PastRows.{StandFor}
 
@@ -74,7 +74,7 @@ epoch_packets_of old logs steps.Nothing = []
 epoch_packets_of old logs (steps.Own step) = map (in_epoch old.epoch) step.packets.items
 epoch_packets_of old logs (steps.Known client number place) = []
 epoch_packets_of old logs (steps.Refused client number refusal) = []
-epoch_packets_of old logs (steps.Kept entry) = []
+epoch_packets_of old logs (steps.Deferred entry) = []
 epoch_packets_of old logs (steps.Ask to packet) =
     (to, record { epoch = old.epoch; purpose = purposes.Ask; packet = packet }) ∷ []
 epoch_packets_of old logs (steps.Tell to epoch base) =
@@ -87,7 +87,7 @@ logs_after logs steps.Nothing = logs
 logs_after logs (steps.Own step) = logs
 logs_after logs (steps.Known client number place) = logs
 logs_after logs (steps.Refused client number refusal) = logs
-logs_after logs (steps.Kept entry) = logs
+logs_after logs (steps.Deferred entry) = logs
 logs_after logs (steps.Ask to packet) = logs
 logs_after logs (steps.Tell to epoch base) = logs
 logs_after logs (steps.Began log packets) = logs ++ log ∷ []
@@ -100,7 +100,7 @@ MakesEpochStep old event new step = (past : List Entry) → StandFor past old.pa
 -- what `EpochNode::begin_next` promises, where it begins an epoch
 pub record BeginsWhereDue (old new : EpochValue) (packets : List (ℕ × Message)) : Type 0 where
   pub due : is_due old ≡ true
-  pub begins : (past : List Entry) → StandFor past old.past → BeginsBehind past (committed_cut old) old new packets
+  pub begins : (past : List Entry) → StandFor past old.past → BeginsAfter past (committed_cut old) old new packets
 
 -- the node that is started again in an epoch of which it has saved nothing
 abbrev pub started_again : EpochValue → EpochValue

@@ -3,7 +3,7 @@ use Rattle.std.proofs.Common.{◌≡◌, ◌≤◌, ℕ, ◌+◌, List, ◌++◌
 use Rattle.std.proofs.lemmas.List.{length-take-le, take-take}
 use Rattle.desk_types.specs.declared.command.Entry.{Entry}
 use Rattle.desk_types.specs.declared.packet.Message.{Message}
-use Rattle.desk_epoch_node.specs.Does.{BeginsBehind, next_node, next_packets}
+use Rattle.desk_epoch_node.specs.Does.{BeginsAfter, next_node, next_packets}
 use Rattle.desk_epoch_node.specs.EpochValue.{EpochValue}
 use Rattle.desk_epoch_node.specs.PastRows.{PastValue, StandFor}
 
@@ -20,7 +20,7 @@ cut_length most commit log h within = length-take-le most log (omega (arith, h, 
 pub begins_next : (past log : List Entry) (old new : EpochValue) (longer : PastValue) (packets : List (ℕ × Message)) →
     StandFor (past ++ log) longer →
     new ≡ record { epoch = old.epoch + 1; past = longer; most = old.most; node = next_node old.node } →
-    packets ≡ next_packets old.node → BeginsBehind past log old new packets
+    packets ≡ next_packets old.node → BeginsAfter past log old new packets
 begins_next past log old new longer packets s is sent = record {
   epoch_is = ap (λ (e : EpochValue). e.epoch) is;
   past_is = subst (λ (p : PastValue). StandFor (past ++ log) p) (sym (ap (λ (e : EpochValue). e.past) is)) s;

@@ -1,6 +1,6 @@
 pub mod Rows
 pub mod EpochEnds
 pub mod OneLogRequests
-pub mod KeptHistories
-pub mod ToldLogs
+pub mod PreservedHistories
+pub mod ReportedLogs
 pub mod Beginnings

@@ -11,7 +11,7 @@ use Rattle.desk_log.proofs.Latest.{latest_is_last, latest_push}
 use Rattle.desk_log.proofs.Places.{entry_at-append, entry_at-last}
 use Rattle.desk_epoch_node.specs.declared.past_row.PastRow.{PastRow}
 use Rattle.desk_epochs.specs.OneLog.{new_where, admission_by, epoch_admission}
-use Rattle.desk_epochs.proofs.OneLog.{epochs_are_one_log, tests_behind}
+use Rattle.desk_epochs.proofs.OneLog.{epochs_are_one_log, tests_after}
 use Rattle.desk_epoch_node.specs.PastRows.{AreLatestRows, PastValue, StandFor, decided, has_room, latest_row}
 use Rattle.desk_epoch_node.specs.PastRows.{one_log_admission, past_row_at}
 
@@ -31,7 +31,7 @@ of_own past log p number client place e s is there =
     let same : number_at log place ≡ e.number = ap (λ o. option_map_or (λ (x : Entry). x.number) o 0) there in
     ap (λ k. decided number k (p.length + place) room) (sym same)
     ∙ (ap (λ k. decided number (number_at log place) (k + place) room) s.length_is
-    ∙ (sym (tests_behind room (length past) number (number_at log place) place (ltb number (number_at log place))
+    ∙ (sym (tests_after room (length past) number (number_at log place) place (ltb number (number_at log place))
     (eqb number (number_at log place)))
     ∙ as_one_log past log client number (Some place) is))
 
@@ -112,9 +112,9 @@ pub rows_put : (past entries : List Entry) (before i : ℕ) (e : Entry) (old new
     ((c : ℕ) → latest_row new c ≡ cond (eqb e.client c) (Some row) (latest_row old c)) →
     AreLatestRows (past ++ take (i + 1) entries) new
 rows_put past entries before i e old new row count within h more row_is set =
-    let behind : before + i + 1 ≡ length (past ++ take i entries) + 1 =
+    let after : before + i + 1 ≡ length (past ++ take i entries) + 1 =
     omega (arith, count, length-append past (take i entries), length-take-le i entries within) in
     subst (λ log. AreLatestRows log new)
     (append_assoc past (take i entries) (e ∷ []) ∙ ap (λ es. past ++ es) (sym more))
     (rows_push (past ++ take i entries) e old new row h
-    (row_is ∙ ap (λ k. record { number = e.number; place = k }) behind) set)
+    (row_is ∙ ap (λ k. record { number = e.number; place = k }) after) set)

@@ -48,7 +48,7 @@ abbrev pub next_packets : NodeValue → List (ℕ × Message)
 next_packets node = view_requests node.id node.n 0 (next_view node)
 
 -- The node has a log more behind it, which is that of its epoch, and begins the next.
-pub record BeginsBehind (past log : List Entry) (old new : EpochValue) (packets : List (ℕ × Message)) : Type 0 where
+pub record BeginsAfter (past log : List Entry) (old new : EpochValue) (packets : List (ℕ × Message)) : Type 0 where
   pub epoch_is : new.epoch ≡ old.epoch + 1
   pub past_is : StandFor (past ++ log) new.past
   pub most_is : new.most ≡ old.most
@@ -82,7 +82,7 @@ IsOwn old event new step = ⊥
 
 -- The node begins the next epoch after a log that it was told.
 abbrev pub IsBegun : List Entry → List Entry → EpochValue → EpochValue → EpochStep → Type 0
-IsBegun past whole old new (steps.Began log packets) = (log ≡ whole) × BeginsBehind past whole old new packets.items
+IsBegun past whole old new (steps.Began log packets) = (log ≡ whole) × BeginsAfter past whole old new packets.items
 IsBegun past whole old new step = ⊥
 
 -- The node stays as it is.
@@ -100,7 +100,7 @@ DoesDeed past Ignore old new step = Only steps.Nothing old new step
 DoesDeed past (Own event) old new step = IsOwn old event new step
 DoesDeed past (Answer client number place) old new step = Only (steps.Known client number place) old new step
 DoesDeed past (Refuse client number refusal) old new step = Only (steps.Refused client number refusal) old new step
-DoesDeed past (Keep entry) old new step = Only (steps.Kept entry) old new step
+DoesDeed past (Keep entry) old new step = Only (steps.Deferred entry) old new step
 DoesDeed past (Ask to) old new step =
     Only (steps.Ask to (GetState old.node.id 0 (length (committed_cut old)))) old new step
 DoesDeed past (Tell to epoch base) old new step = Only (steps.Tell to epoch base) old new step

@@ -19,7 +19,7 @@ use Rattle.desk_epoch_node.specs.declared.deed.Deed.{Deed}
 use Rattle.desk_epoch_node.specs.declared.deed.Deed.TheVariants.{Own, Answer, Refuse}
 use Rattle.desk_epoch_node.specs.declared.step.EpochStep.{EpochStep}
 use Rattle.desk_epoch_node.specs.Deeds.{request_deed}
-use Rattle.desk_epoch_node.specs.Does.{BeginsBehind, DoesDeed, is_rest, whole_log}
+use Rattle.desk_epoch_node.specs.Does.{BeginsAfter, DoesDeed, is_rest, whole_log}
 use Rattle.desk_epoch_node.specs.EpochValue.{EpochValue, committed_cut, has_next, reaches_end}
 use Rattle.desk_epoch_node.specs.PastRows.{StandFor, one_log_admission}
 
@@ -69,7 +69,7 @@ StepsKeep = (past : List Entry) (asked : Deed) (old new : EpochValue) (step : Ep
 -- and where the node begins the next epoch.
 abbrev pub BeginningsKeep : Type 0
 BeginningsKeep = (past : List Entry) (old new : EpochValue) (packets : List (ℕ × Message)) →
-    BeginsBehind past (committed_cut old) old new packets → KeepsHistory past old new
+    BeginsAfter past (committed_cut old) old new packets → KeepsHistory past old new
 
 -- Where what a node has committed is the beginning of its epoch's log, that log's entries behind it make the log whole.
 abbrev pub TellingServes : Type 0

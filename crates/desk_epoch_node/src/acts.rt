@@ -48,7 +48,11 @@ impl EpochNode {
     }
 
     /// Takes the rest of its epoch's log, and begins the next.
-    fn begin_told(&mut self, base: u64, entries: Items<Entry>) -> Result<EpochStep, WantOfMemory>
+    fn begin_with_rest(
+        &mut self,
+        base: u64,
+        entries: Items<Entry>,
+    ) -> Result<EpochStep, WantOfMemory>
         requires rest { is_rest self.old base entries ≡ true }
         ensures begun { IfOk result (λ step. (past : List AnEntry) → StandFor past self.old.past →
             IsBegun past (whole_log self.old base entries) self.old self.new step) }
@@ -69,7 +73,7 @@ impl EpochNode {
         ensures err { OnErr result (self.new ≡ self.old) }
     {
         if self.is_rest(base, entries.as_slice()) {
-            return self.begin_told(base, entries);
+            return self.begin_with_rest(base, entries);
         }
         drop(entries);
         Ok(EpochStep::Nothing)
@@ -102,7 +106,7 @@ impl EpochNode {
                 number,
                 refusal,
             }),
-            Deed::Keep(entry) => Ok(EpochStep::Kept(entry)),
+            Deed::Keep(entry) => Ok(EpochStep::Deferred(entry)),
             Deed::Ask { to } => Ok(EpochStep::Ask {
                 to,
                 packet: self.ask(),

@@ -6,7 +6,7 @@ ghost use Rattle.desk_types.specs.declared.command.Entry.{Entry as AnEntry};
 ghost use Rattle.desk_types.specs.declared.limits.TheConstants.{LAST_PLACE};
 ghost use Rattle.desk_log.specs.SavedValue.{committed_entries};
 ghost use Rattle.desk_view_change.specs.Rules.{view_requests};
-ghost use Rattle.desk_epoch_node.specs.Does.{BeginsBehind, node_in_view, is_due, next_node, next_packets};
+ghost use Rattle.desk_epoch_node.specs.Does.{BeginsAfter, node_in_view, is_due, next_node, next_packets};
 ghost use Rattle.desk_epoch_node.specs.EpochValue.{committed_cut, has_next};
 ghost use Rattle.desk_epoch_node.specs.PastRows.{StandFor};
 
@@ -103,7 +103,7 @@ impl EpochNode {
             ((is_due self.old ≡ false) × (self.new ≡ self.old))
             (λ ended. (is_due self.old ≡ true) × (ended.node ≡ self.old.node)
             × ((past : List AnEntry) → StandFor past self.old.past →
-            BeginsBehind past (committed_cut self.old) self.old self.new ended.packets.items))) }
+            BeginsAfter past (committed_cut self.old) self.old self.new ended.packets.items))) }
         ensures err { OnErr result (self.new ≡ self.old) }
     {
         if !self.has_ended() || !self.has_next() {

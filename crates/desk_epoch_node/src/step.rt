@@ -25,7 +25,7 @@ pub enum EpochStep {
         refusal: Refusal,
     },
     /// The request is to be asked again in the next epoch: the log has reached the end of its own.
-    Kept(Entry),
+    Deferred(Entry),
     /// A packet of the node's epoch asks another node for what the node lacks.
     Ask {
         to: u8,

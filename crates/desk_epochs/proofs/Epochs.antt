@@ -16,7 +16,7 @@ use Rattle.desk_world.specs.Requested.{IsRequested}
 use Rattle.desk_epochs.specs.Histories.{Ending, epoch_log, has_ended, committed_in, IsWholeEpoch, ArePast, history}
 use Rattle.desk_epochs.specs.Histories.{AreNew, AskNew}
 use Rattle.desk_epochs.specs.Epochs.{Epochs, first_epochs, joined_logs, IsNewFor, epoch_of, HappensIn, GoesOver}
-use Rattle.desk_epochs.specs.Epochs.{BeginsNext, IsTold}
+use Rattle.desk_epochs.specs.Epochs.{BeginsNext, CatchesUp}
 use Rattle.desk_epochs.specs.Epochs.{NextEpochs, StepsLead, EpochsAgree, EpochsRise}
 use Rattle.desk_epochs.proofs.Histories.{over_same, cut_same, agree_from}
 use Rattle.desk_epochs.proofs.RisingHistories.{rise_from, nothing_rises}
@@ -118,7 +118,7 @@ past_next domain ending sizes runs epoch (p ∷ ps) qs log a =
     (past_next domain ending sizes runs (suc epoch) ps qs log a.1)
 
 -- An epoch's requests were new beside logs of the epochs before it; or there is none.
-pub record NewBehind (domain : List ℕ) (ending : Ending) (sizes : ℕ → ℕ) (runs : ℕ → List WorldEvent) (epoch : ℕ) :
+pub record NewAfter (domain : List ℕ) (ending : Ending) (sizes : ℕ → ℕ) (runs : ℕ → List WorldEvent) (epoch : ℕ) :
     Type 0 where
   pub past : List (List Entry)
   pub whole : ArePast domain ending sizes runs 0 past
@@ -130,7 +130,7 @@ NoRequest events = (e : Entry) → IsRequested events e → ⊥
 
 pub record Holds (domain : List ℕ) (ending : Ending) (sizes : ℕ → ℕ) (d : Epochs) : Type 0 where
   pub pasts : (i : ℕ) → ArePast domain ending sizes d.runs 0 (d.pasts i)
-  pub asked : (epoch : ℕ) → NoRequest (d.runs epoch) ⊎ NewBehind domain ending sizes d.runs epoch
+  pub asked : (epoch : ℕ) → NoRequest (d.runs epoch) ⊎ NewAfter domain ending sizes d.runs epoch
 
 pub first_holds : (domain : List ℕ) (ending : Ending) (sizes : ℕ → ℕ) → Holds domain ending sizes first_epochs
 unfolding NoRequest
@@ -152,7 +152,7 @@ asked_more before events event new one e f place r there same =
 
 new_more : (domain : List ℕ) (ending : Ending) (sizes : ℕ → ℕ) (old new : ℕ → List WorldEvent) →
     ((epoch : ℕ) → IsGroup (sizes epoch)) → RunsGrow old new → (epoch : ℕ) → new epoch ≡ old epoch →
-    NewBehind domain ending sizes old epoch → NewBehind domain ending sizes new epoch
+    NewAfter domain ending sizes old epoch → NewAfter domain ending sizes new epoch
 new_more domain ending sizes old new group g epoch same b = record {
   past = b.past;
   whole = past_more domain ending sizes old new group g 0 b.past b.whole;
@@ -201,7 +201,7 @@ happens_holds domain ending sizes old new group k h = record {
     grow = happens_grow old new h
 
     -- what was asked before in this epoch was new beside the same logs
-    before : NoRequest (old.runs here) ⊎ NewBehind domain ending sizes old.runs here →
+    before : NoRequest (old.runs here) ⊎ NewAfter domain ending sizes old.runs here →
         AreNew (joined_logs mine) (old.runs here)
     before (inl none) = λ e f place r. absurd (none e r)
     before (inr b) =
@@ -209,8 +209,8 @@ happens_holds domain ending sizes old new group k h = record {
         (past_one domain ending sizes old.runs group 0 b.past mine b.whole (k.pasts h.node) b.count) b.new
 
     by_epoch : (epoch : ℕ) → (epoch ≡ here) ⊎ (epoch ≢ here) →
-        NoRequest (old.runs epoch) ⊎ NewBehind domain ending sizes old.runs epoch →
-        NoRequest (new.runs epoch) ⊎ NewBehind domain ending sizes new.runs epoch
+        NoRequest (old.runs epoch) ⊎ NewAfter domain ending sizes old.runs epoch →
+        NoRequest (new.runs epoch) ⊎ NewAfter domain ending sizes new.runs epoch
     by_epoch epoch (inr ne) (inl none) =
         inl (subst (λ (es : List WorldEvent). (e : Entry) → IsRequested es e → ⊥) (sym (h.there epoch ne)) none)
     by_epoch epoch (inr ne) (inr b) =
@@ -261,10 +261,10 @@ begins_holds domain ending sizes old new group k b =
     (epoch_of old b.node))
     b.node)) old new group k b.goes (record { node = b.node; over = b.over; log_is = refl })
 
-told_holds : (domain : List ℕ) (ending : Ending) (sizes : ℕ → ℕ) (old new : Epochs) →
-    ((epoch : ℕ) → IsGroup (sizes epoch)) → Holds domain ending sizes old → IsTold old new →
+reported_holds : (domain : List ℕ) (ending : Ending) (sizes : ℕ → ℕ) (old new : Epochs) →
+    ((epoch : ℕ) → IsGroup (sizes epoch)) → Holds domain ending sizes old → CatchesUp old new →
     Holds domain ending sizes new
-told_holds domain ending sizes old new group k t =
+reported_holds domain ending sizes old new group k t =
     let all : ArePast domain ending sizes old.runs 0 (t.before ++ t.log ∷ t.rest) =
     subst (λ (ps : List (List Entry)). ArePast domain ending sizes old.runs 0 ps) t.has (k.pasts t.teller) in
     let whole : IsWholeEpoch domain ending (sizes (epoch_of old t.node)) (old.runs (epoch_of old t.node)) t.log =
@@ -278,7 +278,7 @@ pub next_holds : (domain : List ℕ) (ending : Ending) (sizes : ℕ → ℕ) (ol
     Holds domain ending sizes new
 next_holds domain ending sizes old new group k (inl h) = happens_holds domain ending sizes old new group k h
 next_holds domain ending sizes old new group k (inr (inl b)) = begins_holds domain ending sizes old new group k b
-next_holds domain ending sizes old new group k (inr (inr t)) = told_holds domain ending sizes old new group k t
+next_holds domain ending sizes old new group k (inr (inr t)) = reported_holds domain ending sizes old new group k t
 
 next_grow : (domain : List ℕ) (ending : Ending) (sizes : ℕ → ℕ) (old new : Epochs) →
     NextEpochs domain ending sizes old new → RunsGrow old.runs new.runs
@@ -347,9 +347,9 @@ pub joined_push : (ps : List (List Entry)) (log : List Entry) → joined_logs (p
 joined_push [] log = append-nil log
 joined_push (p ∷ ps) log = ap (λ es. p ++ es) (joined_push ps log) ∙ sym (append_assoc p (joined_logs ps) log)
 
-pub push_behind : (ps qs : List (List Entry)) (log : List Entry) → (ps ++ log ∷ []) ++ qs ≡ ps ++ log ∷ qs
-push_behind [] qs log = refl
-push_behind (p ∷ ps) qs log = ap (λ ls. p ∷ ls) (push_behind ps qs log)
+pub push_after : (ps qs : List (List Entry)) (log : List Entry) → (ps ++ log ∷ []) ++ qs ≡ ps ++ log ∷ qs
+push_after [] qs log = refl
+push_after (p ∷ ps) qs log = ap (λ ls. p ∷ ls) (push_after ps qs log)
 
 pub count_push : (ps : List (List Entry)) (log : List Entry) → length (ps ++ log ∷ []) ≡ suc (length ps)
 count_push [] log = refl
@@ -376,7 +376,7 @@ all_new domain ending sizes d group k done (r ∷ rs) a = (
   subst (λ e. AskNew d.runs e (joined_logs done ++ r) rs) (count_push done r)
       (subst (λ (log : List Entry). AskNew d.runs (length (done ++ r ∷ [])) log rs) (joined_push done r)
       (all_new domain ending sizes d group k (done ++ r ∷ []) rs
-      (subst (λ (ps : List (List Entry)). ArePast domain ending sizes d.runs 0 ps) (sym (push_behind done rs r)) a))),
+      (subst (λ (ps : List (List Entry)). ArePast domain ending sizes d.runs 0 ps) (sym (push_after done rs r)) a))),
 )
 
 pub epochs_rise : EpochsRise

@@ -46,9 +46,9 @@ over_same ends (suc k) (x ∷ xs) (y ∷ ys) f o =
     ap (λ es. x ∷ es) (over_rest ends k (ends x) xs ys o (over_same ends k xs ys f.1))
     ∙ rw f.0 refl
 
-prefix_behind : (log xs ys : List Entry) → IsLogPrefix xs ys → IsLogPrefix (log ++ xs) (log ++ ys)
-prefix_behind [] xs ys f = f
-prefix_behind (e ∷ es) xs ys f = (refl, prefix_behind es xs ys f)
+prefix_after : (log xs ys : List Entry) → IsLogPrefix xs ys → IsLogPrefix (log ++ xs) (log ++ ys)
+prefix_after [] xs ys f = f
+prefix_after (e ∷ es) xs ys f = (refl, prefix_after es xs ys f)
 
 abbrev pub Agree : List Entry → List Entry → Type 0
 Agree xs ys = IsLogPrefix xs ys ⊎ IsLogPrefix ys xs
@@ -119,7 +119,7 @@ agree_from domain ending sizes early late i j group epoch (p ∷ ps) (q ∷ qs) 
     let one : List Entry = history domain ending sizes early (suc epoch) ps i in
     let other : List Entry = history domain ending sizes (λ e. early e ++ late e) (suc epoch) qs j in
     rw same
-    (⊎_elim (λ f. inl (prefix_behind q one other f)) (λ f. inr (prefix_behind q other one f))
+    (⊎_elim (λ f. inl (prefix_after q one other f)) (λ f. inr (prefix_after q other one f))
     (agree_from domain ending sizes early late i j group (suc epoch) ps qs a.1 b.1))
 
 pub histories_agree : HistoriesAgree

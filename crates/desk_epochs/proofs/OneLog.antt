@@ -57,18 +57,18 @@ latest_append client xs ys =
     latest_append_from 1 client xs ys
     ∙ ap (λ o. option_or o (latest client xs)) (latest_shift (length xs) 1 client ys)
 
-get_behind : (xs ys : List Entry) (k : ℕ) → slice_get (xs ++ ys) (length xs + k) ≡ slice_get ys k
-get_behind [] ys k = let same : 0 + k ≡ k = omega arith in ap (slice_get ys) same
-get_behind (x ∷ xs) ys k =
+get_after : (xs ys : List Entry) (k : ℕ) → slice_get (xs ++ ys) (length xs + k) ≡ slice_get ys k
+get_after [] ys k = let same : 0 + k ≡ k = omega arith in ap (slice_get ys) same
+get_after (x ∷ xs) ys k =
     let same : suc (length xs) + k ≡ suc (length xs + k) = omega arith in
-    ap (slice_get (x ∷ (xs ++ ys))) same ∙ get_behind xs ys k
+    ap (slice_get (x ∷ (xs ++ ys))) same ∙ get_after xs ys k
 
 number_after : (xs ys : List Entry) (place : ℕ) (e : Entry) → entry_at ys place ≡ Some e →
     number_at (xs ++ ys) (length xs + place) ≡ number_at ys place
 number_after xs ys zero e there = absurd (none-some e there)
 number_after xs ys (suc k) e there =
     let same : length xs + suc k ≡ suc (length xs + k) = omega arith in
-    ap (number_at (xs ++ ys)) same ∙ ap (λ o. option_map_or (λ (x : Entry). x.number) o 0) (get_behind xs ys k)
+    ap (number_at (xs ++ ys)) same ∙ ap (λ o. option_map_or (λ (x : Entry). x.number) o 0) (get_after xs ys k)
 
 number_before : (xs ys : List Entry) (place : ℕ) (e : Entry) → entry_at xs place ≡ Some e →
     number_at (xs ++ ys) place ≡ number_at xs place
@@ -79,13 +79,13 @@ number_before xs ys place e there =
     other ∙ sym one
 
 -- the tests, with the entry's number
-pub tests_behind : (room : Bool) (count number other place : ℕ) (less same : Bool) →
+pub tests_after : (room : Bool) (count number other place : ℕ) (less same : Bool) →
     placed_after count (if less then Stale other else if same then Retry place else new_where room)
     ≡ (if less then Stale other else if same then Retry (count + place) else new_where room)
-tests_behind room count number other place true same = refl
-tests_behind room count number other place false true = refl
-tests_behind true count number other place false false = refl
-tests_behind false count number other place false false = refl
+tests_after room count number other place true same = refl
+tests_after room count number other place false true = refl
+tests_after true count number other place false false = refl
+tests_after false count number other place false false = refl
 
 pub epochs_are_one_log : EpochsAreOneLog
 epochs_are_one_log room past log client number =
@@ -108,7 +108,7 @@ epochs_are_one_log room past log client number =
     by_log None q = by_past (latest client past) refl
     by_log (Some place) q =
         let l : IsLatest client log place = latest_is_last client log place q in
-        tests_behind room (length past) number (number_at log place) place (ltb number (number_at log place))
+        tests_after room (length past) number (number_at log place) place (ltb number (number_at log place))
         (eqb number (number_at log place))
         ∙ ap (λ m. if ltb number m then Stale m else if eqb number m then Retry (length past + place)
         else new_where room)

@@ -64,7 +64,7 @@ pub record BeginsNext (domain : List ℕ) (ending : Ending) (sizes : ℕ → ℕ
       (old.runs (epoch_of old node)) node)) old new
 
 -- A node is told the whole log of its epoch by one that has it behind it, and begins the next.
-pub record IsTold (old new : Epochs) : Type 0 where
+pub record CatchesUp (old new : Epochs) : Type 0 where
   pub node : ℕ
   pub teller : ℕ
   pub before : List (List Entry)
@@ -75,7 +75,8 @@ pub record IsTold (old new : Epochs) : Type 0 where
   pub goes : GoesOver node log old new
 
 abbrev pub NextEpochs : List ℕ → Ending → (ℕ → ℕ) → Epochs → Epochs → Type 0
-NextEpochs domain ending sizes old new = HappensIn old new ⊎ (BeginsNext domain ending sizes old new ⊎ IsTold old new)
+NextEpochs domain ending sizes old new =
+    HappensIn old new ⊎ (BeginsNext domain ending sizes old new ⊎ CatchesUp old new)
 
 -- So many steps lead from a desk to another.
 abbrev pub StepsLead : List ℕ → Ending → (ℕ → ℕ) → ℕ → Epochs → Epochs → Type 0

@@ -1,6 +1,6 @@
 pub mod Prefixes
 pub mod Commas
 pub mod Members
-pub mod Told
+pub mod Reported
 pub mod Trying
 pub mod Placed

@@ -18,9 +18,9 @@ use Rattle.desk_follow.specs.Places.{are_number_digits, number_of_digits, number
 use Rattle.desk_follow.specs.Places.{place_by_members}
 use Rattle.desk_follow.specs.Places.{place_by_object, shown_place}
 use Rattle.desk_follow.specs.Readings.{after_prefix}
-use Rattle.desk_follow.proofs.Prefixes.{behind_itself}
+use Rattle.desk_follow.proofs.Prefixes.{after_itself}
 use Rattle.desk_follow.proofs.Commas.{split_number}
-use Rattle.desk_follow.proofs.Members.{told}
+use Rattle.desk_follow.proofs.Members.{reported}
 
 pub no_number : (ds : List ℕ) → are_number_digits ds ≡ false → None ≡ number_of_digits ds
 no_number ds e = sym (cond-false _ _ _ e)
@@ -50,14 +50,14 @@ number_is n fits =
 -- the members of a board after how many incidents it has
 abbrev placed : ℕ → ℕ → ℕ → List ℕ
 placed client at units =
-    codes "\"ok\":\"board\",\"place\":" ++ (decimal at ++ 44 ∷ told ((codes "session", count client)
+    codes "\"ok\":\"board\",\"place\":" ++ (decimal at ++ 44 ∷ reported ((codes "session", count client)
     ∷ (codes "units", count units) ∷ []))
 
-told_board : (client at incidents units : ℕ) →
+reported_board : (client at incidents units : ℕ) →
     line_of (outcomes.Board client (shows.Board at incidents units))
     ≡ codes "{\"incidents\":" ++ (decimal incidents ++ 44 ∷ placed client at units)
 unfolding escape_byte
-told_board client at incidents units =
+reported_board client at incidents units =
     ap (λ l. codes "{\"incidents\":" ++ l) (append_assoc (decimal incidents) _ (10 ∷ [])
     ∙ ap (λ l. decimal incidents ++ 44 ∷ (codes "\"ok\":\"board\",\"place\":" ++ l)) (append_assoc (decimal at) _
     (10 ∷ [])))
@@ -67,9 +67,9 @@ pub board_place : (client at incidents units : ℕ) → at < 2 ^ 64 →
 unfolding shown_place
 board_place client at incidents units fits =
     let members = placed client at units in
-    let rest = told ((codes "session", count client) ∷ (codes "units", count units) ∷ []) in
-    ap (λ l. place_by_object (after_prefix (codes "{\"incidents\":") l)) (told_board client at incidents units)
-    ∙ ap place_by_object (behind_itself (codes "{\"incidents\":") (decimal incidents ++ 44 ∷ members))
+    let rest = reported ((codes "session", count client) ∷ (codes "units", count units) ∷ []) in
+    ap (λ l. place_by_object (after_prefix (codes "{\"incidents\":") l)) (reported_board client at incidents units)
+    ∙ ap place_by_object (after_itself (codes "{\"incidents\":") (decimal incidents ++ 44 ∷ members))
     ∙ ap place_by_members (split_number incidents members)
-    ∙ ap place_by_value (behind_itself (codes "\"ok\":\"board\",\"place\":") (decimal at ++ 44 ∷ rest))
+    ∙ ap place_by_value (after_itself (codes "\"ok\":\"board\",\"place\":") (decimal at ++ 44 ∷ rest))
     ∙ ap number_before (split_number at rest) ∙ number_is at fits

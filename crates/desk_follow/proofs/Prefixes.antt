@@ -7,21 +7,21 @@ use Rattle.std.proofs.lemmas.Option.{none-some, same_Some}
 use denote.Ref.{Bor}
 use Rattle.desk_follow.specs.Readings.{after_prefix}
 
-pub behind_itself : (prefix rest : List ℕ) → after_prefix prefix (prefix ++ rest) ≡ Some rest
-behind_itself [] rest = refl
-behind_itself (p ∷ prefix) rest = rw (eq-eqb p p refl) (behind_itself prefix rest)
+pub after_itself : (prefix rest : List ℕ) → after_prefix prefix (prefix ++ rest) ≡ Some rest
+after_itself [] rest = refl
+after_itself (p ∷ prefix) rest = rw (eq-eqb p p refl) (after_itself prefix rest)
 
-behind_at : (p b : ℕ) (prefix text rest : List ℕ) (same : Bool) → eqb b p ≡ same →
+after_at : (p b : ℕ) (prefix text rest : List ℕ) (same : Bool) → eqb b p ≡ same →
     (after_prefix prefix text ≡ Some rest → text ≡ prefix ++ rest) →
     cond same (after_prefix prefix text) None ≡ Some rest → b ∷ text ≡ p ∷ (prefix ++ rest)
-behind_at p b prefix text rest true e h k = rw (eqb-true b p e, h k) refl
-behind_at p b prefix text rest false e h k = absurd (none-some rest k)
+after_at p b prefix text rest true e h k = rw (eqb-true b p e, h k) refl
+after_at p b prefix text rest false e h k = absurd (none-some rest k)
 
-behind_is : (prefix text rest : List ℕ) → after_prefix prefix text ≡ Some rest → text ≡ prefix ++ rest
-behind_is [] text rest h = same_Some _ _ h
-behind_is (p ∷ prefix) [] rest h = absurd (none-some rest h)
-behind_is (p ∷ prefix) (b ∷ text) rest h =
-    behind_at p b prefix text rest (eqb b p) refl (behind_is prefix text rest) h
+after_is : (prefix text rest : List ℕ) → after_prefix prefix text ≡ Some rest → text ≡ prefix ++ rest
+after_is [] text rest h = same_Some _ _ h
+after_is (p ∷ prefix) [] rest h = absurd (none-some rest h)
+after_is (p ∷ prefix) (b ∷ text) rest h =
+    after_at p b prefix text rest (eqb b p) refl (after_is prefix text rest) h
 
 none_if : (o : Option (List ℕ)) → ((rest : List ℕ) → o ≡ Some rest → ⊥) → o ≡ None
 none_if None h = refl
@@ -31,5 +31,5 @@ none_if (Some x) h = absurd (h x refl)
 pub found : (text prefix : List ℕ) (r : Option (Bor (List ℕ))) →
     MatchOption r ((rest : List ℕ) → text ≢ prefix ++ rest) (λ x. text ≡ prefix ++ x.now) →
     option_map (λ rest. rest.now) r ≡ after_prefix prefix text
-found text prefix None h = sym (none_if (after_prefix prefix text) (λ rest e. h rest (behind_is prefix text rest e)))
-found text prefix (Some x) h = rw h (sym (behind_itself prefix x.now))
+found text prefix None h = sym (none_if (after_prefix prefix text) (λ rest e. h rest (after_is prefix text rest e)))
+found text prefix (Some x) h = rw h (sym (after_itself prefix x.now))

@@ -51,7 +51,7 @@ fn is_later(text: &[u8]) -> bool
 
 /// What is done by the members of a reply that tells no primary.
 fn course_by_refusal(members: &[u8]) -> Course
-    ensures told { result ≡ course_by_number (after_prefix (key_of (codes "refusal"))
+    ensures reported { result ≡ course_by_number (after_prefix (key_of (codes "refusal"))
         (past_member (codes "place") (past_member (codes "number") members.now))) }
     ensures within { (count : ℕ) → IsWithin count result }
 {
@@ -64,7 +64,7 @@ fn course_by_refusal(members: &[u8]) -> Course
 
 /// What is done where these digits tell the primary of a group of so many nodes.
 fn course_at(digits: &[u8], count: u8) -> Course
-    ensures told { result ≡ course_at count digits.now }
+    ensures reported { result ≡ course_at count digits.now }
     ensures within { IsWithin count result }
 {
     match digits {
@@ -75,7 +75,7 @@ fn course_at(digits: &[u8], count: u8) -> Course
 
 /// What is done where the number of the primary stands first in a text.
 fn course_by_primary(text: &[u8], count: u8) -> Course
-    ensures told { result ≡ course_by_parts count (split_at 44 text.now) }
+    ensures reported { result ≡ course_by_parts count (split_at 44 text.now) }
     ensures within { IsWithin count result }
 {
     match split_at_first(text, b',') {
@@ -87,7 +87,7 @@ fn course_by_primary(text: &[u8], count: u8) -> Course
 /// What is done about a line after this reply, in a group of so many nodes.
 #[tactic(auto, unfolding(crate::specs::Readings::course_of))]
 pub fn course_of(reply: &[u8], count: u8) -> Course
-    ensures told { result ≡ course_of count reply.now }
+    ensures reported { result ≡ course_of count reply.now }
     ensures within { IsWithin count result }
 {
     let Some(members) = after_prefix(reply, b"{") else {

@@ -192,9 +192,9 @@ impl<N: Nodes> Handler for Follower<N> {
     ghost gives_up = { λ f line refusal g. Tried f.count (N.tries f.nodes) f.node line (N.tries g.nodes) g.node
         × GivenUp refusal g.is_late };
 
-    ghost Kept = { ℕ };
+    ghost Preserved = { ℕ };
 
-    ghost kept = { λ f. f.count };
+    ghost preserved = { λ f. f.count };
 
     fn answer(self, line: &LineBuffer) -> (Follower<N>, Result<ReplyText, Refusal>) {
         let Follower {

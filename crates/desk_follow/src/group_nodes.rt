@@ -64,11 +64,11 @@ impl<R: Net<Stream = TcpStream> + Clock + RandomSource + Drop> GroupNodes<R> {
 
     /// The connection to a node, a new one where none was kept.
     fn take_stream(&mut self, node: u8) -> Option<NodeStream> {
-        let kept = match self.streams.get_mut(node as usize) {
-            Some(kept) => kept.take(),
+        let preserved = match self.streams.get_mut(node as usize) {
+            Some(preserved) => preserved.take(),
             None => None,
         };
-        match kept {
+        match preserved {
             Some(stream) => Some(stream),
             None => open_stream(&self.rt, self.alloc, &self.address, node),
         }
@@ -76,8 +76,8 @@ impl<R: Net<Stream = TcpStream> + Clock + RandomSource + Drop> GroupNodes<R> {
 
     /// Keeps the connection to a node for the next line.
     fn keep_stream(&mut self, node: u8, stream: NodeStream) {
-        if let Some(kept) = self.streams.get_mut(node as usize) {
-            *kept = Some(stream);
+        if let Some(preserved) = self.streams.get_mut(node as usize) {
+            *preserved = Some(stream);
         }
     }
 

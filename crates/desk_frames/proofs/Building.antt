@@ -16,6 +16,6 @@ module _ (m : Message) (room whole : List ℕ) (four : length room ≡ 4) (put :
   length_written count bytes new counted are e =
       let p = packet_spelling m in
       let n : count ≡ length p = omega (arith, counted, whole_length) in
-      let behind : drop 4 whole ≡ p = ap (drop 4) put ∙ drop_at room p 4 four in
-      e ∙ ap (λ (b : List ℕ). b ++ drop (0 + length b) whole) are ∙ ap (λ r. to_be_bytes w32 count ++ r) behind
+      let beyond : drop 4 whole ≡ p = ap (drop 4) put ∙ drop_at room p 4 four in
+      e ∙ ap (λ (b : List ℕ). b ++ drop (0 + length b) whole) are ∙ ap (λ r. to_be_bytes w32 count ++ r) beyond
       ∙ ap (λ k. to_be_bytes w32 k ++ p) n

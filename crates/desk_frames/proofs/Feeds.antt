@@ -15,27 +15,38 @@ use Rattle.desk_codec.proofs.Starts.{start_is_front}
 use Rattle.desk_frames.specs.declared.cutter.TheConstants.{ROOM_BYTES}
 use Rattle.desk_frames.specs.declared.frame.Place.{Place}
 use Rattle.desk_frames.specs.declared.frame.Place.TheVariants as places
-use Rattle.desk_frames.specs.Frame.{FrameState, Stands, position, Moved, IsAwaited, IsFront, KeptAt, KeptAll, KeptWith}
-use Rattle.desk_frames.specs.Frame.{SoFar, GoesOn, HasCut, StillKept, Awaits, front_entries, in_frame}
+use Rattle.desk_frames.specs.Frame.{
+  FrameState,
+  Stands,
+  position,
+  Moved,
+  IsAwaited,
+  IsFront,
+  PreservedAt,
+  PreservedAll,
+  PreservedWith,
+}
+use Rattle.desk_frames.specs.Frame.{SoFar, GoesOn, HasCut, StillPreserved, Awaits, front_entries, in_frame}
 use Rattle.desk_frames.specs.Stream.{Standing, Open, Doomed, Holds, Came, frames_spelling}
 use Rattle.desk_frames.specs.Whole.{log_in}
 use Rattle.desk_frames.proofs.Cuttings.{AreFit-append, bad_longer}
-use Rattle.desk_frames.proofs.Keeping.{awaited_kept, front_self}
+use Rattle.desk_frames.proofs.Keeping.{awaited_preserved, front_self}
 use Rattle.desk_frames.proofs.Steps.{partial_at}
 
-kept_none : (es : List Entry) (ms : List Message) (f g : FrameState) →
-    ((ds : List Entry) → KeptAt ds f.place f.entries → KeptWith ds None g) → KeptAll es ms f → KeptAll es ms g
-kept_none es [] f g keeps k = keeps es k
-kept_none es (m ∷ ms) f g keeps k = k
+preserved_none : (es : List Entry) (ms : List Message) (f g : FrameState) →
+    ((ds : List Entry) → PreservedAt ds f.place f.entries → PreservedWith ds None g) → PreservedAll es ms f →
+    PreservedAll es ms g
+preserved_none es [] f g keeps k = keeps es k
+preserved_none es (m ∷ ms) f g keeps k = k
 
-kept_some : (es : List Entry) (ms : List Message) (m : Message) (f g : FrameState) →
-    ((ds : List Entry) → KeptAt ds f.place f.entries → KeptWith ds (Some m) g) → KeptAll es ms f →
-    KeptAll es (ms ++ m ∷ []) g
-kept_some es [] m f g keeps k = keeps es k
-kept_some es (q ∷ ms) m f g keeps k = k
+preserved_some : (es : List Entry) (ms : List Message) (m : Message) (f g : FrameState) →
+    ((ds : List Entry) → PreservedAt ds f.place f.entries → PreservedWith ds (Some m) g) → PreservedAll es ms f →
+    PreservedAll es (ms ++ m ∷ []) g
+preserved_some es [] m f g keeps k = keeps es k
+preserved_some es (q ∷ ms) m f g keeps k = k
 
 pub goes_none : (f g : FrameState) (ms : List Message) (x : List ℕ) → Moved (position f []) x None (position g []) →
-    ((ds : List Entry) → KeptAt ds f.place f.entries → KeptWith ds None g) → GoesOn f ms x g ms
+    ((ds : List Entry) → PreservedAt ds f.place f.entries → PreservedWith ds None g) → GoesOn f ms x g ms
 goes_none f g ms x moved keeps old es done s = record {
   came = (
     s.came.0,
@@ -46,7 +57,7 @@ goes_none f g ms x moved keeps old es done s = record {
           moved p.0 p.2,
         ),
   );
-  keeps = kept_none es ms f g keeps s.keeps;
+  keeps = preserved_none es ms f g keeps s.keeps;
 }
 
 pub begins_partial : Holds (Open []) []
@@ -54,7 +65,8 @@ begins_partial = (refl, inl (omega arith))
 
 pub goes_some : (f g : FrameState) (ms : List Message) (m : Message) (x : List ℕ) →
     Moved (position f []) x (Some m) (position g []) →
-    ((ds : List Entry) → KeptAt ds f.place f.entries → KeptWith ds (Some m) g) → GoesOn f ms x g (ms ++ m ∷ [])
+    ((ds : List Entry) → PreservedAt ds f.place f.entries → PreservedWith ds (Some m) g) →
+    GoesOn f ms x g (ms ++ m ∷ [])
 goes_some f g ms m x moved keeps old es done s = record {
   came = (
     AreFit-append ms (m ∷ []) s.came.0 (moved.0, tt),
@@ -71,7 +83,7 @@ goes_some f g ms m x moved keeps old es done s = record {
           subst (λ (s : Standing). Holds s []) (sym moved.1) begins_partial,
         ),
   );
-  keeps = kept_some es ms m f g keeps s.keeps;
+  keeps = preserved_some es ms m f g keeps s.keeps;
 }
 
 pub goes_goes : (f g k : FrameState) (ms ns os : List Message) (x y : List ℕ) → GoesOn f ms x g ns →
@@ -83,29 +95,32 @@ goes_goes f g k ms ns os x y a b old es done s =
 pub goes_nowhere : (f : FrameState) (ms : List Message) → GoesOn f ms [] f ms
 goes_nowhere f ms old es done s = subst (λ (d : List ℕ). SoFar old es d ms f) (sym (append-nil done)) s
 
-still_front : (es : List Entry) (ms : List Message) (f : FrameState) → IsAwaited f.place → KeptAll es ms f →
+still_front : (es : List Entry) (ms : List Message) (f : FrameState) → IsAwaited f.place → PreservedAll es ms f →
     IsFront es (front_entries ms f.entries)
-still_front es [] f a k = awaited_kept es f.place f.entries a k
+still_front es [] f a k = awaited_preserved es f.place f.entries a k
 still_front es (m ∷ ms) f a k = k
 
 -- memory was refused before anything changed
-pub still_same : (f g : FrameState) (ms ns : List Message) → IsAwaited f.place → g ≡ f → ns ≡ ms → StillKept f ms g ns
+pub still_same : (f g : FrameState) (ms ns : List Message) → IsAwaited f.place → g ≡ f → ns ≡ ms →
+    StillPreserved f ms g ns
 still_same f g ms ns a e d old es done s = rw (e, d) (still_front es ms f a s.keeps)
 
 -- memory was refused for the packet, and its entries were taken back
 pub still_back : (f g h : FrameState) (ms ns : List Message) (m : Message) →
-    ((ds : List Entry) → KeptAt ds f.place f.entries → KeptWith ds (Some m) g) → h.entries ≡ log_in m → ns ≡ ms →
-    StillKept f ms h ns
+    ((ds : List Entry) → PreservedAt ds f.place f.entries → PreservedWith ds (Some m) g) → h.entries ≡ log_in m →
+    ns ≡ ms →
+    StillPreserved f ms h ns
 still_back f g h ms ns m keeps e d old es done s = rw d (of ms s.keeps)
   where
-    of : (ms : List Message) → KeptAll es ms f → IsFront es (front_entries ms h.entries)
+    of : (ms : List Message) → PreservedAll es ms f → IsFront es (front_entries ms h.entries)
     of [] k = rw e (keeps es k)
     of (q ∷ ms) k = k
 
 -- memory was refused further on
-pub still_on : (f g k : FrameState) (ms ns os : List Message) (x : List ℕ) → GoesOn f ms x g ns → StillKept g ns k os →
-    StillKept f ms k os
-still_on f g k ms ns os x goes kept old es done s = kept old es (done ++ x) (goes old es done s)
+pub still_on : (f g k : FrameState) (ms ns os : List Message) (x : List ℕ) → GoesOn f ms x g ns →
+    StillPreserved g ns k os →
+    StillPreserved f ms k os
+still_on f g k ms ns os x goes preserved old es done s = preserved old es (done ++ x) (goes old es done s)
 
 pub on_err_is : {A E : Type 0} (r : Result A E) {P : Type 0} → P → OnErr r P
 on_err_is (Ok x) p = tt
@@ -178,15 +193,15 @@ all_front m piece lt = of (nat_le (length piece) m) refl
         let le : m ≤ length piece = grind (arith, nat_tests, z) in
         absurd (omega (arith, lt, length-take-le m piece le))
 
-pub ok_joined : {E : Type 0} (r : Result ℕ E) (waited piece field behind room : List ℕ) (n : ℕ)
+pub ok_joined : {E : Type 0} (r : Result ℕ E) (waited piece field beyond room : List ℕ) (n : ℕ)
     (f g k : FrameState) (ms ns os : List Message) → GoesOn f ms field g ns → field ≡ waited ++ take n piece →
-    behind ≡ drop n piece → IfOk r (λ left. HasCut behind g ns (take left room) k os) →
+    beyond ≡ drop n piece → IfOk r (λ left. HasCut beyond g ns (take left room) k os) →
     IfOk r (λ left. HasCut (waited ++ piece) f ms (take left room) k os)
-ok_joined (Ok left) waited piece field behind room n f g k ms ns os goes whole rest cut =
+ok_joined (Ok left) waited piece field beyond room n f g k ms ns os goes whole rest cut =
     cut_joined waited piece (take left room) n f g k ms ns os
     (subst (λ (x : List ℕ). GoesOn f ms x g ns) whole goes)
     (subst (λ (x : List ℕ). HasCut x g ns (take left room) k os) rest cut)
-ok_joined (Err e) waited piece field behind room n f g k ms ns os goes whole rest cut = tt
+ok_joined (Err e) waited piece field beyond room n f g k ms ns os goes whole rest cut = tt
 
 -- from the field that waited to the one that waits
 
@@ -202,29 +217,36 @@ waiting_apart f x bytes = of f.place
     of : (p : Place) → Stands p f.entries → Awaits p x → Holds (position (at_place f p) x) bytes →
         (before : List ℕ) × (bytes ≡ before ++ x) × Holds (position (at_place f p) []) before
     of places.Length o a h = ([], h.0, begins_partial)
-    of (places.Start told) o a h =
-        let w = in_frame told [] in
-        (w, h.0, (sym (append-nil w), partial_at told [] [] o.1 (omega (arith, o.1.0))))
-    of (places.Entries told left s more) o a h =
-        let w = in_frame told (begun s f.entries) in
-        (w, h.0, (sym (append-nil w), partial_at told (begun s f.entries) [] o.0.range (omega (arith, o.0.sum, o.2))))
+    of (places.Start announced) o a h =
+        let w = in_frame announced [] in
+        (w, h.0, (sym (append-nil w), partial_at announced [] [] o.1 (omega (arith, o.1.0))))
+    of (places.Entries announced left s more) o a h =
+        let w = in_frame announced (begun s f.entries) in (
+          w,
+          h.0,
+          (
+            sym (append-nil w),
+            partial_at announced (begun s f.entries) [] o.0.range
+                (omega (arith, o.0.sum, o.2)),
+          ),
+        )
     of (places.Doomed left) o a h = (bytes, sym (append-nil bytes) ∙ ap (λ r. bytes ++ r) (sym a), h)
     of places.Stopped o a h = (bytes, sym (append-nil bytes) ∙ ap (λ r. bytes ++ r) (sym a), h)
 
-waiting_behind : (f : FrameState) (x rest : List ℕ) → Stands f.place f.entries → Awaits f.place x →
+waiting_after : (f : FrameState) (x rest : List ℕ) → Stands f.place f.entries → Awaits f.place x →
     Holds (position f []) rest → Holds (position f x) (rest ++ x)
-waiting_behind f x rest = of f.place
+waiting_after f x rest = of f.place
   where
     of : (p : Place) → Stands p f.entries → Awaits p x → Holds (position (at_place f p) []) rest →
         Holds (position (at_place f p) x) (rest ++ x)
     of places.Length o a h = (ap (λ r. r ++ x) h.0, inl a)
-    of (places.Start told) o a h =
-        let w = in_frame told [] in
-        (ap (λ r. r ++ x) (h.0 ∙ append-nil w), partial_at told [] x o.1 (omega (arith, a.1)))
-    of (places.Entries told left s more) o a h =
-        let w = in_frame told (begun s f.entries) in (
+    of (places.Start announced) o a h =
+        let w = in_frame announced [] in
+        (ap (λ r. r ++ x) (h.0 ∙ append-nil w), partial_at announced [] x o.1 (omega (arith, a.1)))
+    of (places.Entries announced left s more) o a h =
+        let w = in_frame announced (begun s f.entries) in (
           ap (λ r. r ++ x) (h.0 ∙ append-nil w),
-          partial_at told (begun s f.entries) x o.0.range
+          partial_at announced (begun s f.entries) x o.0.range
               (omega (arith, o.0.sum, a.1)),
         )
     of (places.Doomed left) o a h = subst (Holds (Doomed left)) (sym (ap (λ r. rest ++ r) a ∙ append-nil rest)) h
@@ -237,10 +259,10 @@ from_here f o = record {
   keeps = of f.place;
 }
   where
-    of : (p : Place) → KeptAt f.entries p f.entries
+    of : (p : Place) → PreservedAt f.entries p f.entries
     of places.Length = front_self f.entries
-    of (places.Start told) = front_self f.entries
-    of (places.Entries told left s more) = front_self f.entries
+    of (places.Start announced) = front_self f.entries
+    of (places.Entries announced left s more) = front_self f.entries
     of (places.Doomed left) = tt
     of places.Stopped = tt
 
@@ -260,16 +282,16 @@ came_all f g waited piece waits ms o p a b cut =
             ap (λ r. r ++ piece) apart.1 ∙ append_assoc apart.0 waited piece ∙ ap (λ r. apart.0 ++ r) e
                 ∙ sym (append_assoc apart.0 x waits) ∙ ap (λ r. r ++ waits) came.1
                 ∙ append_assoc (frames_spelling ms) came.0 waits,
-            waiting_behind g waits came.0 p b came.2,
+            waiting_after g waits came.0 p b came.2,
           )),
     )
 
 -- the entries that stood first are all there
-pub kept_count : (f g : FrameState) (ms : List Message) → Stands f.place f.entries → StillKept f [] g ms →
+pub preserved_count : (f g : FrameState) (ms : List Message) → Stands f.place f.entries → StillPreserved f [] g ms →
     (length f.entries ≤ length (front_entries ms g.entries))
     × (take (length f.entries) (front_entries ms g.entries) ≡ f.entries)
-kept_count f g ms o kept =
-    let front = kept (position f []) f.entries [] (from_here f o) in
+preserved_count f g ms o preserved =
+    let front = preserved (position f []) f.entries [] (from_here f o) in
     let len : length (front_entries ms g.entries) ≡ length (f.entries ++ front.0) = ap length (sym front.1) in (
       omega (arith, len, length-append f.entries front.0),
       ap (take (length f.entries)) (sym front.1) ∙ take_at f.entries front.0 (length f.entries) refl,
@@ -278,8 +300,8 @@ kept_count f g ms o kept =
 -- what waits has room
 pub awaits_room : (p : Place) (x : List ℕ) → Awaits p x → length x < ROOM_BYTES
 awaits_room places.Length x a = omega (arith, a)
-awaits_room (places.Start told) x a = omega (arith, start_is_front.needs x a.0)
-awaits_room (places.Entries told left s more) x a = elim a.0 [
+awaits_room (places.Start announced) x a = omega (arith, start_is_front.needs x a.0)
+awaits_room (places.Entries announced left s more) x a = elim a.0 [
   | inl few ↦ omega (arith, few)
   | inr h ↦ let small = head_small x h.0 h.1 in omega (arith, h.2, small)
 ]
@@ -298,11 +320,11 @@ came_taken f g room before after piece n k ms ns o p a b same none cut =
 
 -- it stands as it did
 pub stands_same : (f g h : FrameState) (ms : List Message) (p : Place) (n : ℕ) (x y : List ℕ) →
-    Stands f.place f.entries → StillKept f [] g ms → p ≡ f.place → n ≡ length f.entries →
+    Stands f.place f.entries → StillPreserved f [] g ms → p ≡ f.place → n ≡ length f.entries →
     h ≡ record { place = p; entries = take n (front_entries ms g.entries) } → x ≡ y → position h x ≡ position f y
-stands_same f g h ms p n x y o kept place count is same =
+stands_same f g h ms p n x y o preserved place count is same =
     let all : take n (front_entries ms g.entries) ≡ f.entries =
-    ap (λ i. take i (front_entries ms g.entries)) count ∙ (kept_count f g ms o kept).1 in
+    ap (λ i. take i (front_entries ms g.entries)) count ∙ (preserved_count f g ms o preserved).1 in
     let back : h ≡ f =
     is ∙ ap (λ (q : Place). record { place = q; entries = take n (front_entries ms g.entries) }) place
     ∙ ap (λ (es : List Entry). record { place = f.place; entries = es }) all in

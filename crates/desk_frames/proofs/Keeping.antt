@@ -9,7 +9,7 @@ use Rattle.desk_types.specs.declared.packet.Message.TheVariants.{DoViewChange, S
 use Rattle.desk_codec.specs.Version.{entries_of}
 use Rattle.desk_frames.specs.declared.frame.Place.{Place}
 use Rattle.desk_frames.specs.declared.frame.Place.TheVariants as places
-use Rattle.desk_frames.specs.Frame.{FrameState, HasEntries, IsAwaited, IsFront, KeptAt, KeptWith}
+use Rattle.desk_frames.specs.Frame.{FrameState, HasEntries, IsAwaited, IsFront, PreservedAt, PreservedWith}
 use Rattle.desk_frames.specs.Whole.{log_in}
 
 front_front : (xs ys zs : List Entry) → IsFront xs ys → IsFront ys zs → IsFront xs zs
@@ -18,19 +18,21 @@ front_front xs ys zs p q = (p.0 ++ q.0, sym (append_assoc xs p.0 q.0) ∙ ap (λ
 pub front_self : (xs : List Entry) → IsFront xs xs
 front_self xs = ([], append-nil xs)
 
-pub awaited_kept : (es : List Entry) (p : Place) (now : List Entry) → IsAwaited p → KeptAt es p now → IsFront es now
-awaited_kept es places.Length now a k = k
-awaited_kept es (places.Start told) now a k = k
-awaited_kept es (places.Entries told left s more) now a k = k
-awaited_kept es (places.Doomed left) now a k = absurd a
-awaited_kept es places.Stopped now a k = absurd a
+pub awaited_preserved : (es : List Entry) (p : Place) (now : List Entry) → IsAwaited p → PreservedAt es p now →
+    IsFront es now
+awaited_preserved es places.Length now a k = k
+awaited_preserved es (places.Start announced) now a k = k
+awaited_preserved es (places.Entries announced left s more) now a k = k
+awaited_preserved es (places.Doomed left) now a k = absurd a
+awaited_preserved es places.Stopped now a k = absurd a
 
-kept_on : (es ds : List Entry) (p : Place) (now : List Entry) → IsFront es ds → KeptAt ds p now → KeptAt es p now
-kept_on es ds places.Length now f k = front_front es ds now f k
-kept_on es ds (places.Start told) now f k = front_front es ds now f k
-kept_on es ds (places.Entries told left s more) now f k = front_front es ds now f k
-kept_on es ds (places.Doomed left) now f k = tt
-kept_on es ds places.Stopped now f k = tt
+preserved_on : (es ds : List Entry) (p : Place) (now : List Entry) → IsFront es ds → PreservedAt ds p now →
+    PreservedAt es p now
+preserved_on es ds places.Length now f k = front_front es ds now f k
+preserved_on es ds (places.Start announced) now f k = front_front es ds now f k
+preserved_on es ds (places.Entries announced left s more) now f k = front_front es ds now f k
+preserved_on es ds (places.Doomed left) now f k = tt
+preserved_on es ds places.Stopped now f k = tt
 
 -- a packet with one entry had none before
 lone_front : (es ds : List Entry) (e d : Entry) → IsFront es ds → d ∷ [] ≡ ds ++ e ∷ [] → IsFront es []
@@ -55,15 +57,16 @@ log_front (NewState from view base commit entries) es ds e f h = front_front es 
 
 -- an entry came
 pub entry_keeps : (f g : FrameState) (p : Place) (e : Entry) (packet : Option Message) → f.place ≡ p → IsAwaited p →
-    HasEntries (f.entries ++ e ∷ []) packet g.place g.entries → (es : List Entry) → KeptAt es f.place f.entries →
-    KeptWith es packet g
+    HasEntries (f.entries ++ e ∷ []) packet g.place g.entries → (es : List Entry) → PreservedAt es f.place f.entries →
+    PreservedWith es packet g
 entry_keeps f g p e packet is a has es k = of packet has
   where
     front : IsFront es f.entries
-    front = awaited_kept es p f.entries a (subst (λ (q : Place). KeptAt es q f.entries) is k)
+    front = awaited_preserved es p f.entries a (subst (λ (q : Place). PreservedAt es q f.entries) is k)
 
-    of : (packet : Option Message) → HasEntries (f.entries ++ e ∷ []) packet g.place g.entries → KeptWith es packet g
-    of None has = kept_on es (f.entries ++ e ∷ []) g.place g.entries
+    of : (packet : Option Message) → HasEntries (f.entries ++ e ∷ []) packet g.place g.entries →
+        PreservedWith es packet g
+    of None has = preserved_on es (f.entries ++ e ∷ []) g.place g.entries
         (front_front es f.entries (f.entries ++ e ∷ []) front (e ∷ [], refl)) has
     of (Some m) has = log_front m es f.entries e front has
 
@@ -74,27 +77,27 @@ nil_front (y ∷ ys) ds f = absurd (omega (arith, ap length f.1, length-append (
 -- a start came, before which there was no entry
 pub start_keeps : (f g : FrameState) (p : Place) (packet : Option Message) → f.place ≡ p → IsAwaited p →
     f.entries ≡ [] → HasEntries f.entries packet g.place g.entries → (es : List Entry) →
-    KeptAt es f.place f.entries → KeptWith es packet g
+    PreservedAt es f.place f.entries → PreservedWith es packet g
 start_keeps f g p packet is a none has es k = of packet has
   where
     front : IsFront es f.entries
-    front = awaited_kept es p f.entries a (subst (λ (q : Place). KeptAt es q f.entries) is k)
+    front = awaited_preserved es p f.entries a (subst (λ (q : Place). PreservedAt es q f.entries) is k)
 
-    of : (packet : Option Message) → HasEntries f.entries packet g.place g.entries → KeptWith es packet g
-    of None has = kept_on es f.entries g.place g.entries front has
+    of : (packet : Option Message) → HasEntries f.entries packet g.place g.entries → PreservedWith es packet g
+    of None has = preserved_on es f.entries g.place g.entries front has
     of (Some m) has = nil_front es (log_in m) (subst (IsFront es) none front)
 
 -- no entry came
 pub same_keeps : (f : FrameState) (p q : Place) → f.place ≡ p → IsAwaited p → (es : List Entry) →
-    KeptAt es f.place f.entries → KeptAt es q f.entries
+    PreservedAt es f.place f.entries → PreservedAt es q f.entries
 same_keeps f p q is a es k =
     let front : IsFront es f.entries =
-    awaited_kept es p f.entries a (subst (λ (q : Place). KeptAt es q f.entries) is k) in
-    kept_on es f.entries q f.entries front (kept_self q)
+    awaited_preserved es p f.entries a (subst (λ (q : Place). PreservedAt es q f.entries) is k) in
+    preserved_on es f.entries q f.entries front (preserved_self q)
   where
-    kept_self : (q : Place) → KeptAt f.entries q f.entries
-    kept_self places.Length = front_self f.entries
-    kept_self (places.Start told) = front_self f.entries
-    kept_self (places.Entries told left s more) = front_self f.entries
-    kept_self (places.Doomed left) = tt
-    kept_self places.Stopped = tt
+    preserved_self : (q : Place) → PreservedAt f.entries q f.entries
+    preserved_self places.Length = front_self f.entries
+    preserved_self (places.Start announced) = front_self f.entries
+    preserved_self (places.Entries announced left s more) = front_self f.entries
+    preserved_self (places.Doomed left) = tt
+    preserved_self places.Stopped = tt

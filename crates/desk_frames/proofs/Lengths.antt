@@ -2,16 +2,25 @@
 use Rattle.std.proofs.Common.{◌≡◌, ◌≢◌, inl, inr, ℕ, ◌≤◌, List, length, refl, sym, subst, ◌∙◌, arith}
 use Rattle.std.proofs.lemmas.List.{append_cancel_left}
 use Rattle.desk_codec.specs.Ranges.{IsPacketLength}
-use Rattle.desk_frames.specs.Stream.{Standing, Open, Doomed, Stopped, Holds, IsPartial, frames_spelling, told_length}
+use Rattle.desk_frames.specs.Stream.{
+  Standing,
+  Open,
+  Doomed,
+  Stopped,
+  Holds,
+  IsPartial,
+  frames_spelling,
+  announced_length,
+}
 use Rattle.desk_frames.specs.Lengths.{WaitsForGoodLengths}
 
-partial_good : (rest : List ℕ) → IsPartial rest → 4 ≤ length rest → IsPacketLength (told_length rest)
+partial_good : (rest : List ℕ) → IsPartial rest → 4 ≤ length rest → IsPacketLength (announced_length rest)
 partial_good rest (inl lt) le = absurd (omega (arith, lt, le))
 partial_good rest (inr p) le = p.0
 
 held_good : (standing : Standing) (rest : List ℕ) → Holds standing rest → standing ≢ Stopped → 4 ≤ length rest →
-    IsPacketLength (told_length rest)
-held_good (Open kept) rest h go le = partial_good rest (subst IsPartial (sym h.0) h.1) le
+    IsPacketLength (announced_length rest)
+held_good (Open preserved) rest h go le = partial_good rest (subst IsPartial (sym h.0) h.1) le
 held_good (Doomed left) rest h go le = h.2
 held_good Stopped rest h go le = absurd (go refl)
 

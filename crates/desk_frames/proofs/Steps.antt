@@ -28,58 +28,62 @@ use Rattle.desk_codec.proofs.Starts.{start_is_front}
 use Rattle.desk_codec.proofs.Wholes.{begun_with}
 use Rattle.desk_frames.specs.declared.frame.Place.{Place}
 use Rattle.desk_frames.specs.declared.frame.Place.TheVariants as places
-use Rattle.desk_frames.specs.Frame.{FrameState, IsOpen, Stands, position, Behind, Arrives, Moved, in_frame}
-use Rattle.desk_frames.specs.Frame.{Awaits, Covers, behind_length}
-use Rattle.desk_frames.specs.Stream.{Standing, Open, Doomed, Stopped, Holds, BeginsNone, told_length, IsPartial}
+use Rattle.desk_frames.specs.Frame.{FrameState, IsOpen, Stands, position, AfterPart, Arrives, Moved, in_frame}
+use Rattle.desk_frames.specs.Frame.{Awaits, Covers, place_after_length}
+use Rattle.desk_frames.specs.Stream.{Standing, Open, Doomed, Stopped, Holds, BeginsNone, announced_length, IsPartial}
 use Rattle.desk_frames.proofs.Cuttings.{bad_longer}
-use Rattle.desk_frames.proofs.FirstFrames.{told_is, bad_length}
+use Rattle.desk_frames.proofs.FirstFrames.{announced_is, bad_length}
 use Rattle.desk_frames.proofs.Keeping.{front_self}
 
-told_back : (told : ℕ) (b : List ℕ) → told ≤ FRAME_BYTES → told_length (in_frame told b) ≡ told
-told_back told b le = ap (from_be_bytes w32) (take_at (to_be_bytes w32 told) b 4 refl)
-    ∙ from_be_bytes-to_be_bytes_4 told (omega (arith, le))
+announced_back : (announced : ℕ) (b : List ℕ) → announced ≤ FRAME_BYTES →
+    announced_length (in_frame announced b) ≡ announced
+announced_back announced b le = ap (from_be_bytes w32) (take_at (to_be_bytes w32 announced) b 4 refl)
+    ∙ from_be_bytes-to_be_bytes_4 announced (omega (arith, le))
 
 -- no packet of so many bytes begins so
 abbrev pub NoneOf : ℕ → List ℕ → Type 0
-NoneOf told b = (m : Message) (more others : List ℕ) → FitsMessage m → length (packet_spelling m) ≡ told →
+NoneOf announced b = (m : Message) (more others : List ℕ) → FitsMessage m → length (packet_spelling m) ≡ announced →
     b ++ more ≡ packet_spelling m ++ others → ⊥
 
-none_frame : (told : ℕ) (b : List ℕ) → told ≤ FRAME_BYTES → NoneOf told b → BeginsNone (in_frame told b)
-none_frame told b le none m more others f h =
-    let four : 4 ≤ length (in_frame told b) = omega (arith, length-append (to_be_bytes w32 told) b) in
-    let t = told_is packet_length (in_frame told b) more others m four f h in
-    let d : drop 4 (in_frame told b) ≡ b = drop_at (to_be_bytes w32 told) b 4 refl in
-    none m more others f (sym t.0 ∙ told_back told b le) (ap (λ r. r ++ more) (sym d) ∙ t.1)
+none_frame : (announced : ℕ) (b : List ℕ) → announced ≤ FRAME_BYTES → NoneOf announced b →
+    BeginsNone (in_frame announced b)
+none_frame announced b le none m more others f h =
+    let four : 4 ≤ length (in_frame announced b) = omega (arith, length-append (to_be_bytes w32 announced) b) in
+    let t = announced_is packet_length (in_frame announced b) more others m four f h in
+    let d : drop 4 (in_frame announced b) ≡ b = drop_at (to_be_bytes w32 announced) b 4 refl in
+    none m more others f (sym t.0 ∙ announced_back announced b le) (ap (λ r. r ++ more) (sym d) ∙ t.1)
 
 -- bytes of a whole frame, which spell no packet
-whole_none : (told : ℕ) (b : List ℕ) → length b ≡ told → ((m : Message) → FitsMessage m → b ≡ packet_spelling m → ⊥) →
-    NoneOf told b
-whole_none told b n none m more others f len h =
-    none m f (sym (take_at b more told n) ∙ ap (take told) h ∙ take_at (packet_spelling m) others told len)
+whole_none : (announced : ℕ) (b : List ℕ) → length b ≡ announced →
+    ((m : Message) → FitsMessage m → b ≡ packet_spelling m → ⊥) →
+    NoneOf announced b
+whole_none announced b n none m more others f len h =
+    none m f (sym (take_at b more announced n) ∙ ap (take announced) h ∙ take_at (packet_spelling m) others announced
+    len)
 
 -- less than a whole frame is there
-pub partial_at : (told : ℕ) (b x : List ℕ) → IsPacketLength told → length b + length x < told →
-    IsPartial (in_frame told b ++ x)
-partial_at told b x range lt =
-    let w = in_frame told b ++ x in
-    let same : w ≡ in_frame told (b ++ x) = append_assoc (to_be_bytes w32 told) b x in
-    let back : told_length w ≡ told = ap told_length same ∙ told_back told (b ++ x) range.1 in
-    let len : length w ≡ 4 + length (b ++ x) = ap length same ∙ length-append (to_be_bytes w32 told) (b ++ x) in
-    let less : length w < 4 + told = omega (arith, len, length-append b x, lt) in
+pub partial_at : (announced : ℕ) (b x : List ℕ) → IsPacketLength announced → length b + length x < announced →
+    IsPartial (in_frame announced b ++ x)
+partial_at announced b x range lt =
+    let w = in_frame announced b ++ x in
+    let same : w ≡ in_frame announced (b ++ x) = append_assoc (to_be_bytes w32 announced) b x in
+    let back : announced_length w ≡ announced = ap announced_length same ∙ announced_back announced (b ++ x) range.1 in
+    let len : length w ≡ 4 + length (b ++ x) = ap length same ∙ length-append (to_be_bytes w32 announced) (b ++ x) in
+    let less : length w < 4 + announced = omega (arith, len, length-append b x, lt) in
     inr (subst IsPacketLength (sym back) range, subst (λ (k : ℕ). length w < 4 + k) (sym back) less)
 
 -- after a start or an entry
 
-module _ (told left : ℕ) (f : PacketStart) (es : List Entry) (more : ℕ) (o : IsOpen told left f es more) where
+module _ (announced left : ℕ) (f : PacketStart) (es : List Entry) (more : ℕ) (o : IsOpen announced left f es more) where
   abbrev b : List ℕ
   b = begun f es
 
   -- another entry comes
-  pub goes_open : 0 < more → 0 < left → Behind told f es None (places.Entries told left f more) es
+  pub goes_open : 0 < more → 0 < left → AfterPart announced f es None (places.Entries announced left f more) es
   goes_open some lt = record {
     arrives = (
-      sym (append-nil (in_frame told b)),
-      partial_at told b [] o.range (omega (arith, o.sum, lt)),
+      sym (append-nil (in_frame announced b)),
+      partial_at announced b [] o.range (omega (arith, o.sum, lt)),
     );
     stands = (o, some, lt);
     keeps = front_self es;
@@ -87,37 +91,37 @@ module _ (told left : ℕ) (f : PacketStart) (es : List Entry) (more : ℕ) (o :
 
   -- bytes of an entry that begins no packet
   pub none_begins : (x : List ℕ) → 0 < more → BeginsNoEntry f.head.version (take left x) →
-      BeginsNone (in_frame told (b ++ x))
-  none_begins x some none = none_frame told (b ++ x) o.range.1 (λ m rest others fits len h.
+      BeginsNone (in_frame announced (b ++ x))
+  none_begins x some none = none_frame announced (b ++ x) o.range.1 (λ m rest others fits len h.
       let again : (b ++ take left x) ++ (drop left x ++ rest) ≡ (b ++ x) ++ rest =
       sym (append_assoc (b ++ take left x) (drop left x) rest)
       ∙ ap (λ r. r ++ rest) (append_assoc b (take left x) (drop left x) ∙ ap (λ r. b ++ r) (take-append-drop left x)) in
       no_entry f es more o.has (take left x) some none m (drop left x ++ rest) others fits (again ∙ h))
 
-  short_of : (y : List ℕ) → 0 < more → length y ≡ left → EntryNeeds y → NoneOf told (b ++ y)
-  short_of y some n needs = whole_none told (b ++ y) (omega (arith, length-append b y, n, o.sum))
+  short_of : (y : List ℕ) → 0 < more → length y ≡ left → EntryNeeds y → NoneOf announced (b ++ y)
+  short_of y some n needs = whole_none announced (b ++ y) (omega (arith, length-append b y, n, o.sum))
       (λ m fits h. short_none f es more o.has y some needs m fits h)
 
   -- an entry that is not whole with the frame's last byte
   pub short_begins : (x : List ℕ) → 0 < more → left ≤ length x → EntryNeeds (take left x) →
-      BeginsNone (in_frame told (b ++ take left x))
-  short_begins x some le needs = none_frame told (b ++ take left x) o.range.1
+      BeginsNone (in_frame announced (b ++ take left x))
+  short_begins x some le needs = none_frame announced (b ++ take left x) o.range.1
       (short_of (take left x) some (length-take-le left x le) needs)
 
-  pub goes_short : 0 < more → left ≡ 0 → Behind told f es None places.Stopped es
+  pub goes_short : 0 < more → left ≡ 0 → AfterPart announced f es None places.Stopped es
   goes_short some none = record {
-    arrives = none_frame told b o.range.1
-        (subst (NoneOf told) (append-nil b) (short_of [] some (sym none) (inl (omega arith))));
+    arrives = none_frame announced b o.range.1
+        (subst (NoneOf announced) (append-nil b) (short_of [] some (sym none) (inl (omega arith))));
     stands = tt;
     keeps = tt;
   }
 
   -- the packet is whole
   pub goes_whole : (m : Message) (now : List Entry) → more ≡ 0 → left ≡ 0 → now ≡ [] → PacketOf f es (Some m) →
-      Behind told f es (Some m) places.Length now
+      AfterPart announced f es (Some m) places.Length now
   unfolding frame_spelling
   goes_whole m now all none is p =
-      let len : length (packet_spelling m) ≡ told = ap length p.1 ∙ omega (arith, o.sum, none) in
+      let len : length (packet_spelling m) ≡ announced = ap length p.1 ∙ omega (arith, o.sum, none) in
       let same : b ++ [] ≡ packet_spelling m ++ [] = ap (λ r. r ++ []) (sym p.1) in
       record {
         arrives = (
@@ -131,16 +135,16 @@ module _ (told left : ℕ) (f : PacketStart) (es : List Entry) (more : ℕ) (o :
       }
 
   -- bytes are left over
-  pub goes_over : (now : List Entry) → more ≡ 0 → 0 < left → Behind told f es None (places.Doomed left) now
+  pub goes_over : (now : List Entry) → more ≡ 0 → 0 < left → AfterPart announced f es None (places.Doomed left) now
   goes_over now none some =
-      let never : NoneOf told b = λ n rest others fits len h.
+      let never : NoneOf announced b = λ n rest others fits len h.
       let whole = these_are f es more o.has none n rest others fits h in
       omega (arith, len, ap length whole, o.sum, some) in
-      let back : told_length (in_frame told b) ≡ told = told_back told b o.range.1 in
-      let size : length (in_frame told b) ≡ 4 + length b = length-append (to_be_bytes w32 told) b in
+      let back : announced_length (in_frame announced b) ≡ announced = announced_back announced b o.range.1 in
+      let size : length (in_frame announced b) ≡ 4 + length b = length-append (to_be_bytes w32 announced) b in
       record {
         arrives = (
-          none_frame told b o.range.1 never,
+          none_frame announced b o.range.1 never,
           omega (arith, size),
           subst IsPacketLength (sym back) o.range,
           some,
@@ -151,12 +155,13 @@ module _ (told left : ℕ) (f : PacketStart) (es : List Entry) (more : ℕ) (o :
       }
 
   -- no packet has them
-  pub goes_nowhere : (now : List Entry) → more ≡ 0 → PacketOf f es None → Behind told f es None places.Stopped now
+  pub goes_nowhere : (now : List Entry) → more ≡ 0 → PacketOf f es None →
+      AfterPart announced f es None places.Stopped now
   goes_nowhere now none p =
-      let never : NoneOf told b = λ n rest others fits len h.
+      let never : NoneOf announced b = λ n rest others fits len h.
       let same = only_these f es more o.has none n rest others fits h in
       p n fits same.0 same.1 in
-      record { arrives = none_frame told b o.range.1 never; stands = tt; keeps = tt }
+      record { arrives = none_frame announced b o.range.1 never; stands = tt; keeps = tt }
 
 -- by the frame, as the code has it
 
@@ -168,18 +173,20 @@ standing_at : (f : FrameState) (p : Place) → f.place ≡ p →
 standing_at f p e = ap (λ (p : Place). position (record { place = p; entries = f.entries }) []) e
 
 -- what came after some bytes of the frame
-arrives_moved : (f g : FrameState) (told : ℕ) (front y x : List ℕ) (packet : Option Message) →
-    position f [] ≡ Open (in_frame told front ++ []) → front ++ x ≡ y →
-    Arrives (in_frame told y) packet (position g []) → Moved (position f []) x packet (position g [])
-arrives_moved f g told front y x packet old whole = of packet
+arrives_moved : (f g : FrameState) (announced : ℕ) (front y x : List ℕ) (packet : Option Message) →
+    position f [] ≡ Open (in_frame announced front ++ []) → front ++ x ≡ y →
+    Arrives (in_frame announced y) packet (position g []) → Moved (position f []) x packet (position g [])
+arrives_moved f g announced front y x packet old whole = of packet
   where
-    is : (bytes : List ℕ) → Holds (position f []) bytes → bytes ++ x ≡ in_frame told y
+    is : (bytes : List ℕ) → Holds (position f []) bytes → bytes ++ x ≡ in_frame announced y
     is bytes hold =
-        let h : Holds (Open (in_frame told front ++ [])) bytes = subst (λ (s : Standing). Holds s bytes) old hold in
-        ap (λ r. r ++ x) (h.0 ∙ append-nil (in_frame told front)) ∙ append_assoc (to_be_bytes w32 told) front x
-        ∙ ap (in_frame told) whole
+        let h : Holds (Open (in_frame announced front ++ [])) bytes =
+        subst (λ (s : Standing). Holds s bytes) old hold in
+        ap (λ r. r ++ x) (h.0 ∙ append-nil (in_frame announced front)) ∙ append_assoc (to_be_bytes w32 announced)
+        front x
+        ∙ ap (in_frame announced) whole
 
-    of : (packet : Option Message) → Arrives (in_frame told y) packet (position g []) →
+    of : (packet : Option Message) → Arrives (in_frame announced y) packet (position g []) →
         Moved (position f []) x packet (position g [])
     of None a = λ bytes hold. subst (Holds (position g [])) (sym (is bytes hold)) a
     of (Some m) a = (a.0, a.1, λ bytes hold. is bytes hold ∙ a.2)
@@ -205,25 +212,25 @@ short_by n k none = of (nat_le n k) refl
     of true z = absurd (none (grind (arith, nat_tests, z)))
     of false z = grind (arith, nat_tests, z)
 
-module _ (told left : ℕ) (s : PacketStart) (more : ℕ) (f : FrameState)
-    (e : f.place ≡ places.Entries told left s more) (stands : Stands f.place f.entries) where
-  pub is_open : IsOpen told left s f.entries more × (0 < more) × (0 < left)
+module _ (announced left : ℕ) (s : PacketStart) (more : ℕ) (f : FrameState)
+    (e : f.place ≡ places.Entries announced left s more) (stands : Stands f.place f.entries) where
+  pub is_open : IsOpen announced left s f.entries more × (0 < more) × (0 < left)
   is_open = subst (λ (p : Place). Stands p f.entries) e stands
 
-  old_is : position f [] ≡ Open (in_frame told (begun s f.entries) ++ [])
-  old_is = standing_at f (places.Entries told left s more) e
+  old_is : position f [] ≡ Open (in_frame announced (begun s f.entries) ++ [])
+  old_is = standing_at f (places.Entries announced left s more) e
 
   waits : (x : List ℕ) → Awaits f.place x → EntryNeeds x × (length x < left)
   waits x a = subst (λ (p : Place). Awaits p x) e a
 
   pub entry_moves : (g : FrameState) (entry : Entry) (n : ℕ) (bytes : List ℕ) (packet : Option Message) →
       n ≤ length (take left bytes) → SpellsEntry entry (take n (take left bytes)) →
-      Behind told s (f.entries ++ entry ∷ []) packet g.place g.entries →
+      AfterPart announced s (f.entries ++ entry ∷ []) packet g.place g.entries →
       Moved (position f []) (take n bytes) packet (position g [])
-  entry_moves g entry n bytes packet le spells behind =
-      arrives_moved f g told (begun s f.entries) (begun s (f.entries ++ entry ∷ [])) (take n bytes) packet old_is
+  entry_moves g entry n bytes packet le spells beyond =
+      arrives_moved f g announced (begun s f.entries) (begun s (f.entries ++ entry ∷ [])) (take n bytes) packet old_is
       (ap (λ r. begun s f.entries ++ r) (sym (front_same left n bytes le) ∙ spells.spelling)
-      ∙ sym (begun_with s f.entries entry)) behind.arrives
+      ∙ sym (begun_with s f.entries entry)) beyond.arrives
 
   pub entry_covers : (entry : Entry) (n : ℕ) (bytes : List ℕ) → n ≤ length (take left bytes) →
       SpellsEntry entry (take n (take left bytes)) → Covers f.place bytes n
@@ -236,68 +243,74 @@ module _ (told left : ℕ) (s : PacketStart) (more : ℕ) (f : FrameState)
   pub stops_none : (x : List ℕ) (now : List Entry) → BeginsNoEntry s.head.version (take left x) →
       MovesTo f (take (length x) x) (record { place = places.Stopped; entries = now })
   stops_none x now none =
-      arrives_moved f (record { place = places.Stopped; entries = now }) told (begun s f.entries)
+      arrives_moved f (record { place = places.Stopped; entries = now }) announced (begun s f.entries)
       (begun s f.entries ++ x) (take (length x) x) None old_is
       (ap (λ r. begun s f.entries ++ r) (take_all (length x) x (omega arith)))
-      (none_begins told left s f.entries more is_open.0 x is_open.1 none)
+      (none_begins announced left s f.entries more is_open.0 x is_open.1 none)
 
   pub stops_short : (x : List ℕ) (now : List Entry) → left ≤ length x → EntryNeeds (take left x) →
       MovesTo f (take left x) (record { place = places.Stopped; entries = now })
   stops_short x now le needs =
-      arrives_moved f (record { place = places.Stopped; entries = now }) told (begun s f.entries)
+      arrives_moved f (record { place = places.Stopped; entries = now }) announced (begun s f.entries)
       (begun s f.entries ++ take left x) (take left x) None old_is refl
-      (short_begins told left s f.entries more is_open.0 x is_open.1 le needs)
+      (short_begins announced left s f.entries more is_open.0 x is_open.1 le needs)
 
   pub left_covers : (bytes : List ℕ) → Covers f.place bytes left
   left_covers bytes x y is a = omega (arith, (waits x a).1)
 
-module _ (told : ℕ) (f : FrameState) (e : f.place ≡ places.Start told) (stands : Stands f.place f.entries) where
-  pub starts : (f.entries ≡ []) × IsPacketLength told
-  starts = subst (λ (p : Place). Stands p f.entries) e stands
+module _ (announced : ℕ) (f : FrameState) (e : f.place ≡ places.Start announced) (stands : Stands f.place f.entries)
+  where
+    pub starts : (f.entries ≡ []) × IsPacketLength announced
+    starts = subst (λ (p : Place). Stands p f.entries) e stands
 
-  start_is : position f [] ≡ Open (in_frame told [] ++ [])
-  start_is = standing_at f (places.Start told) e
+    start_is : position f [] ≡ Open (in_frame announced [] ++ [])
+    start_is = standing_at f (places.Start announced) e
 
-  start_waits : (x : List ℕ) → Awaits f.place x → (front_start x ≡ Err Needs) × (length x < told)
-  start_waits x a = subst (λ (p : Place). Awaits p x) e a
+    start_waits : (x : List ℕ) → Awaits f.place x → (front_start x ≡ Err Needs) × (length x < announced)
+    start_waits x a = subst (λ (p : Place). Awaits p x) e a
 
-  pub start_moves : (g : FrameState) (s : PacketStart) (n : ℕ) (bytes : List ℕ) (packet : Option Message) →
-      n ≤ length (take told bytes) → take n (take told bytes) ≡ start_spelling s →
-      Behind told s f.entries packet g.place g.entries → Moved (position f []) (take n bytes) packet (position g [])
-  start_moves g s n bytes packet le is behind =
-      arrives_moved f g told [] (begun s f.entries) (take n bytes) packet start_is
-      (sym (front_same told n bytes le) ∙ is ∙ sym (append-nil (start_spelling s))
-      ∙ ap (begun s) (sym starts.0)) behind.arrives
+    pub start_moves : (g : FrameState) (s : PacketStart) (n : ℕ) (bytes : List ℕ) (packet : Option Message) →
+        n ≤ length (take announced bytes) → take n (take announced bytes) ≡ start_spelling s →
+        AfterPart announced s f.entries packet g.place g.entries →
+        Moved (position f []) (take n bytes) packet (position g [])
+    start_moves g s n bytes packet le is beyond =
+        arrives_moved f g announced [] (begun s f.entries) (take n bytes) packet start_is
+        (sym (front_same announced n bytes le) ∙ is ∙ sym (append-nil (start_spelling s))
+        ∙ ap (begun s) (sym starts.0)) beyond.arrives
 
-  pub start_covers : (s : PacketStart) (n : ℕ) (bytes : List ℕ) → n ≤ length (take told bytes) →
-      take n (take told bytes) ≡ start_spelling s → front_start (start_spelling s) ≡ Ok (s, []) →
-      Covers f.place bytes n
-  start_covers s n bytes le front reads x y is a = short_by n (length x) (λ few.
-      let begins : take n x ≡ start_spelling s =
-      sym (take-append-le n x y few) ∙ ap (take n) (sym is) ∙ sym (front_same told n bytes le) ∙ front in
-      let whole : x ≡ start_spelling s ++ drop n x =
-      sym (take-append-drop n x) ∙ ap (λ r. r ++ drop n x) begins in
-      ok_err (s, drop n x) Needs (sym (start_is_front.found (start_spelling s) (drop n x) (s, []) reads)
-      ∙ ap front_start (sym whole) ∙ (start_waits x a).0))
+    pub start_covers : (s : PacketStart) (n : ℕ) (bytes : List ℕ) → n ≤ length (take announced bytes) →
+        take n (take announced bytes) ≡ start_spelling s → front_start (start_spelling s) ≡ Ok (s, []) →
+        Covers f.place bytes n
+    start_covers s n bytes le front reads x y is a = short_by n (length x) (λ few.
+        let begins : take n x ≡ start_spelling s =
+        sym (take-append-le n x y few) ∙ ap (take n) (sym is) ∙ sym (front_same announced n bytes le) ∙ front in
+        let whole : x ≡ start_spelling s ++ drop n x =
+        sym (take-append-drop n x) ∙ ap (λ r. r ++ drop n x) begins in
+        ok_err (s, drop n x) Needs (sym (start_is_front.found (start_spelling s) (drop n x) (s, []) reads)
+        ∙ ap front_start (sym whole) ∙ (start_waits x a).0))
 
-  pub start_none : (x : List ℕ) (now : List Entry) → NoStart (take told x) →
-      MovesTo f (take (length x) x) (record { place = places.Stopped; entries = now })
-  start_none x now none =
-      arrives_moved f (record { place = places.Stopped; entries = now }) told [] x (take (length x) x) None start_is
-      (take_all (length x) x (omega arith)) (none_frame told x starts.1.1 (λ m more others fits len h.
-      none m (drop told x ++ more) others fits
-      (sym (append_assoc (take told x) (drop told x) more) ∙ ap (λ r. r ++ more) (take-append-drop told x) ∙ h)))
+    pub start_none : (x : List ℕ) (now : List Entry) → NoStart (take announced x) →
+        MovesTo f (take (length x) x) (record { place = places.Stopped; entries = now })
+    start_none x now none =
+        arrives_moved f (record { place = places.Stopped; entries = now }) announced [] x (take (length x) x) None
+        start_is
+        (take_all (length x) x (omega arith)) (none_frame announced x starts.1.1 (λ m more others fits len h.
+        none m (drop announced x ++ more) others fits
+        (sym (append_assoc (take announced x) (drop announced x) more) ∙ ap (λ r. r ++ more)
+        (take-append-drop announced x) ∙ h)))
 
-  pub start_short : (x : List ℕ) (now : List Entry) → told ≤ length x → front_start (take told x) ≡ Err Needs →
-      MovesTo f (take told x) (record { place = places.Stopped; entries = now })
-  start_short x now le needs =
-      arrives_moved f (record { place = places.Stopped; entries = now }) told [] (take told x) (take told x) None
-      start_is refl (none_frame told (take told x) starts.1.1
-      (whole_none told (take told x) (length-take-le told x le)
-      (λ m fits h. short_start (take told x) needs m fits h)))
+    pub start_short : (x : List ℕ) (now : List Entry) → announced ≤ length x →
+        front_start (take announced x) ≡ Err Needs →
+        MovesTo f (take announced x) (record { place = places.Stopped; entries = now })
+    start_short x now le needs =
+        arrives_moved f (record { place = places.Stopped; entries = now }) announced [] (take announced x)
+        (take announced x) None
+        start_is refl (none_frame announced (take announced x) starts.1.1
+        (whole_none announced (take announced x) (length-take-le announced x le)
+        (λ m fits h. short_start (take announced x) needs m fits h)))
 
-  pub told_covers : (bytes : List ℕ) → Covers f.place bytes told
-  told_covers bytes x y is a = omega (arith, (start_waits x a).1)
+    pub announced_covers : (bytes : List ℕ) → Covers f.place bytes announced
+    announced_covers bytes x y is a = omega (arith, (start_waits x a).1)
 
 -- all of the bytes are taken
 pub all_covers : (p : Place) (bytes : List ℕ) → Covers p bytes (length bytes)
@@ -319,8 +332,8 @@ some_taken n bytes x le is some = omega (arith, length-take-le n bytes le, ap le
 
 module _ (f : FrameState) (begins : f.place ≡ places.Length) (stands : Stands f.place f.entries) (bytes : List ℕ)
     (n : 4 ≤ length bytes) (h : IsBytes bytes) where
-  abbrev told : ℕ
-  told = told_length bytes
+  abbrev announced : ℕ
+  announced = announced_length bytes
 
   abbrev x : List ℕ
   x = take 4 bytes
@@ -331,9 +344,9 @@ module _ (f : FrameState) (begins : f.place ≡ places.Length) (stands : Stands 
   old_begins : position f [] ≡ Open []
   old_begins = standing_at f places.Length begins
 
-  told_bytes : in_frame told [] ≡ x
-  told_bytes = append-nil (to_be_bytes w32 told)
-      ∙ be_bytes_4 x told (length-take-le 4 bytes n) (IsBytes-take 4 bytes h) refl
+  announced_bytes : in_frame announced [] ≡ x
+  announced_bytes = append-nil (to_be_bytes w32 announced)
+      ∙ be_bytes_4 x announced (length-take-le 4 bytes n) (IsBytes-take 4 bytes h) refl
 
   abbrev at : Place → FrameState
   at p = record { place = p; entries = f.entries }
@@ -345,37 +358,37 @@ module _ (f : FrameState) (begins : f.place ≡ places.Length) (stands : Stands 
       MovesTo f x (at p)
   from_old p moved = subst (λ (old : Standing). Moved old x None (position (at p) [])) (sym old_begins) moved
 
-  moves_in : (b : Bool) → is_packet_length told ≡ b → LengthMoves (cond b (places.Start told) places.Stopped)
+  moves_in : (b : Bool) → is_packet_length announced ≡ b → LengthMoves (cond b (places.Start announced) places.Stopped)
   moves_in true c =
-      let p = and_parts (nat_le HEAD_BYTES told) (nat_le told FRAME_BYTES) c in
-      let least : HEAD_BYTES ≤ told = grind (arith, nat_tests, p.0) in
-      let most : told ≤ FRAME_BYTES = grind (arith, nat_tests, p.1) in (
-        from_old (places.Start told) (λ b hold. (
-          ap (λ r. r ++ x) hold.0 ∙ sym told_bytes ∙ sym (append-nil (in_frame told [])),
-          partial_at told [] [] (least, most) (omega (arith, least)),
+      let p = and_parts (nat_le HEAD_BYTES announced) (nat_le announced FRAME_BYTES) c in
+      let least : HEAD_BYTES ≤ announced = grind (arith, nat_tests, p.0) in
+      let most : announced ≤ FRAME_BYTES = grind (arith, nat_tests, p.1) in (
+        from_old (places.Start announced) (λ b hold. (
+          ap (λ r. r ++ x) hold.0 ∙ sym announced_bytes ∙ sym (append-nil (in_frame announced [])),
+          partial_at announced [] [] (least, most) (omega (arith, least)),
         )),
         (none, (least, most)),
       )
   moves_in false c =
-      let out : (told_length x < HEAD_BYTES) ⊎ (FRAME_BYTES < told_length x) =
-      subst (λ (k : ℕ). (k < HEAD_BYTES) ⊎ (FRAME_BYTES < k)) (sym same) (out_of (nat_le HEAD_BYTES told) refl) in
+      let out : (announced_length x < HEAD_BYTES) ⊎ (FRAME_BYTES < announced_length x) =
+      subst (λ (k : ℕ). (k < HEAD_BYTES) ⊎ (FRAME_BYTES < k)) (sym same) (out_of (nat_le HEAD_BYTES announced) refl) in
       let bad : BeginsNone x =
       bad_length packet_length x (omega (arith, length-take-le 4 bytes n)) out in (
         from_old places.Stopped (λ b hold. subst BeginsNone (sym (ap (λ r. r ++ x) hold.0)) bad),
         tt,
       )
     where
-      same : told_length x ≡ told
+      same : announced_length x ≡ announced
       same = ap (from_be_bytes w32) (take_all 4 x (omega (arith, length-take-le 4 bytes n)))
 
-      out_of : (b : Bool) → nat_le HEAD_BYTES told ≡ b → (told < HEAD_BYTES) ⊎ (FRAME_BYTES < told)
+      out_of : (b : Bool) → nat_le HEAD_BYTES announced ≡ b → (announced < HEAD_BYTES) ⊎ (FRAME_BYTES < announced)
       out_of false d = inl (grind (arith, nat_tests, d))
       out_of true d =
-          let high : nat_le told FRAME_BYTES ≡ false = rw d at c in
+          let high : nat_le announced FRAME_BYTES ≡ false = rw d at c in
           inr (grind (arith, nat_tests, high))
 
-  pub length_moves : (p : Place) → p ≡ behind_length told → LengthMoves p
-  length_moves p is = subst LengthMoves (sym is) (moves_in (is_packet_length told) refl)
+  pub length_moves : (p : Place) → p ≡ place_after_length announced → LengthMoves p
+  length_moves p is = subst LengthMoves (sym is) (moves_in (is_packet_length announced) refl)
 
   pub length_covers : Covers f.place bytes 4
   length_covers y z is a =
@@ -392,7 +405,7 @@ module _ (left : ℕ) (f : FrameState) (e : f.place ≡ places.Doomed left) (x :
       MovesTo f (take (length x) x) (record { place = places.Doomed (left - length x); entries = now })
   passes_on now lt bytes hold =
       let h = doomed_bytes bytes hold in
-      let same : told_length (bytes ++ x) ≡ told_length bytes =
+      let same : announced_length (bytes ++ x) ≡ announced_length bytes =
       ap (from_be_bytes w32) (take-append-le 4 bytes x h.1) in
       let len : length (bytes ++ x) ≡ length bytes + length x = length-append bytes x in
       subst (λ r. Holds (Doomed (left - length x)) (bytes ++ r)) (sym (take_all (length x) x (omega arith))) (
@@ -417,7 +430,7 @@ passes_all f x e bytes hold =
 pub awaits_nothing : (p : Place) (es : List Entry) → Stands p es → Awaits p []
 unfolding front_start front_head
 awaits_nothing places.Length es o = omega arith
-awaits_nothing (places.Start told) es o = (refl, omega (arith, o.1.0))
-awaits_nothing (places.Entries told left s more) es o = (inl (omega arith), o.2)
+awaits_nothing (places.Start announced) es o = (refl, omega (arith, o.1.0))
+awaits_nothing (places.Entries announced left s more) es o = (inl (omega arith), o.2)
 awaits_nothing (places.Doomed left) es o = refl
 awaits_nothing places.Stopped es o = refl

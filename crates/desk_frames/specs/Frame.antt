@@ -23,26 +23,26 @@ pub record FrameState : Type 0 where
   pub entries : List Entry
 
 -- a packet of so many bytes, of which so many are to come, and so many entries
-pub record IsOpen (told left : ℕ) (s : PacketStart) (es : List Entry) (more : ℕ) : Type 0 where
+pub record IsOpen (announced left : ℕ) (s : PacketStart) (es : List Entry) (more : ℕ) : Type 0 where
   pub has : HasBegun s es more
-  pub range : IsPacketLength told
-  pub sum : length (begun s es) + left ≡ told
+  pub range : IsPacketLength announced
+  pub sum : length (begun s es) + left ≡ announced
 
 -- A frame with these entries can stand at this place.
 abbrev pub Stands : Place → List Entry → Type 0
 Stands places.Length es = es ≡ []
-Stands (places.Start told) es = (es ≡ []) × IsPacketLength told
-Stands (places.Entries told left s more) es = IsOpen told left s es more × (0 < more) × (0 < left)
+Stands (places.Start announced) es = (es ≡ []) × IsPacketLength announced
+Stands (places.Entries announced left s more) es = IsOpen announced left s es more × (0 < more) × (0 < left)
 Stands (places.Doomed left) es = 0 < left
 Stands places.Stopped es = Unit {0}
 
 -- the place after a frame's length: a length out of range is a fault at once
-abbrev pub behind_length : ℕ → Place
-behind_length told = if is_packet_length told then places.Start told else places.Stopped
+abbrev pub place_after_length : ℕ → Place
+place_after_length announced = if is_packet_length announced then places.Start announced else places.Stopped
 
 -- the bytes of a frame of so many, after its length
 abbrev pub in_frame : ℕ → List ℕ → List ℕ
-in_frame told bytes = to_be_bytes w32 told ++ bytes
+in_frame announced bytes = to_be_bytes w32 announced ++ bytes
 
 -- where a reader stands whose frame has these bytes after what was taken
 abbrev pub position : FrameState → List ℕ → Standing
@@ -50,8 +50,8 @@ position f x = of f.place
   where
     of : Place → Standing
     of places.Length = Open x
-    of (places.Start told) = Open (in_frame told [] ++ x)
-    of (places.Entries told left s more) = Open (in_frame told (begun s f.entries) ++ x)
+    of (places.Start announced) = Open (in_frame announced [] ++ x)
+    of (places.Entries announced left s more) = Open (in_frame announced (begun s f.entries) ++ x)
     of (places.Doomed left) = Doomed left
     of places.Stopped = Stopped
 
@@ -64,8 +64,8 @@ Moved old x (Some m) new = FitsMessage m × (new ≡ Open [])
 -- These bytes are too few for what comes next.
 abbrev pub Awaits : Place → List ℕ → Type 0
 Awaits places.Length x = length x < 4
-Awaits (places.Start told) x = (front_start x ≡ Err Needs) × (length x < told)
-Awaits (places.Entries told left s more) x = EntryNeeds x × (length x < left)
+Awaits (places.Start announced) x = (front_start x ≡ Err Needs) × (length x < announced)
+Awaits (places.Entries announced left s more) x = EntryNeeds x × (length x < left)
 Awaits (places.Doomed left) x = x ≡ []
 Awaits places.Stopped x = x ≡ []
 
@@ -78,12 +78,12 @@ abbrev pub IsFront : List Entry → List Entry → Type 0
 IsFront xs ys = (rest : List Entry) × (xs ++ rest ≡ ys)
 
 -- the entries that stood before stay in front, where a frame stands open
-abbrev pub KeptAt : List Entry → Place → List Entry → Type 0
-KeptAt es places.Length now = IsFront es now
-KeptAt es (places.Start told) now = IsFront es now
-KeptAt es (places.Entries told left s more) now = IsFront es now
-KeptAt es (places.Doomed left) now = Unit {0}
-KeptAt es places.Stopped now = Unit {0}
+abbrev pub PreservedAt : List Entry → Place → List Entry → Type 0
+PreservedAt es places.Length now = IsFront es now
+PreservedAt es (places.Start announced) now = IsFront es now
+PreservedAt es (places.Entries announced left s more) now = IsFront es now
+PreservedAt es (places.Doomed left) now = Unit {0}
+PreservedAt es places.Stopped now = Unit {0}
 
 -- a place of a frame that is awaited, where entries are kept
 abbrev pub IsAwaited : Place → Type 0
@@ -92,16 +92,16 @@ IsAwaited places.Stopped = ⊥
 IsAwaited _ = Unit {0}
 
 -- the entries that stood before are the first of the packet, or of the frame that stands open
-abbrev pub KeptWith : List Entry → Option Message → FrameState → Type 0
-KeptWith es (Some m) g = IsFront es (log_in m)
-KeptWith es None g = KeptAt es g.place g.entries
+abbrev pub PreservedWith : List Entry → Option Message → FrameState → Type 0
+PreservedWith es (Some m) g = IsFront es (log_in m)
+PreservedWith es None g = PreservedAt es g.place g.entries
 
 -- so many of these bytes were taken, and with them the packet was whole, or none
 pub record Taken (f : FrameState) (bytes : List ℕ) (n : ℕ) (packet : Option Message) (g : FrameState) : Type 0 where
   pub within : n ≤ length bytes
   pub some : 0 < n
   pub moved : Moved (position f []) (take n bytes) packet (position g [])
-  pub keeps : (es : List Entry) → KeptAt es f.place f.entries → KeptWith es packet g
+  pub keeps : (es : List Entry) → PreservedAt es f.place f.entries → PreservedWith es packet g
   pub covers : Covers f.place bytes n
 
 -- Of these bytes so many were taken; or none were, since more are needed, and nothing changed.
@@ -117,30 +117,30 @@ Arrives bytes (Some m) new = FitsMessage m × (new ≡ Open []) × (bytes ≡ fr
 -- the entries that came are those of the packet, or of the frame that stands open
 abbrev pub HasEntries : List Entry → Option Message → Place → List Entry → Type 0
 HasEntries es (Some m) place now = entries_of m ≡ es
-HasEntries es None place now = KeptAt es place now
+HasEntries es None place now = PreservedAt es place now
 
 -- the place after a packet's last byte
-abbrev pub behind_packet : Option Message → Place
-behind_packet None = places.Stopped
-behind_packet (Some m) = places.Length
+abbrev pub place_after_packet : Option Message → Place
+place_after_packet None = places.Stopped
+place_after_packet (Some m) = places.Length
 
 -- the place after a start or an entry, where so many bytes and so many entries are to come
-abbrev pub behind_part : ℕ → ℕ → PacketStart → ℕ → Option Message → Place
-behind_part told left s more packet =
-    if more == 0 then (if left == 0 then behind_packet packet else places.Doomed left)
-    else if left == 0 then places.Stopped else places.Entries told left s more
+abbrev pub place_after_part : ℕ → ℕ → PacketStart → ℕ → Option Message → Place
+place_after_part announced left s more packet =
+    if more == 0 then (if left == 0 then place_after_packet packet else places.Doomed left)
+    else if left == 0 then places.Stopped else places.Entries announced left s more
 
 -- what comes after a start or an entry
-pub record Behind (told : ℕ) (s : PacketStart) (es : List Entry) (packet : Option Message) (place : Place)
+pub record AfterPart (announced : ℕ) (s : PacketStart) (es : List Entry) (packet : Option Message) (place : Place)
     (now : List Entry) : Type 0 where
-  pub arrives : Arrives (in_frame told (begun s es)) packet (position (record { place = place; entries = now }) [])
+  pub arrives : Arrives (in_frame announced (begun s es)) packet (position (record { place = place; entries = now }) [])
   pub stands : Stands place now
   pub keeps : HasEntries es packet place now
 
 -- the entries that stood first, among those of the first packet, or of the frame that stands open
-abbrev pub KeptAll : List Entry → List Message → FrameState → Type 0
-KeptAll es [] f = KeptAt es f.place f.entries
-KeptAll es (m ∷ ms) f = IsFront es (log_in m)
+abbrev pub PreservedAll : List Entry → List Message → FrameState → Type 0
+PreservedAll es [] f = PreservedAt es f.place f.entries
+PreservedAll es (m ∷ ms) f = IsFront es (log_in m)
 
 -- the entries of the first packet, or else these
 abbrev pub front_entries : List Message → List Entry → List Entry
@@ -150,7 +150,7 @@ front_entries (m ∷ ms) es = log_in m
 -- what came of bytes so far
 pub record SoFar (old : Standing) (es : List Entry) (done : List ℕ) (ms : List Message) (f : FrameState) : Type 0 where
   pub came : Came old done ms (position f [])
-  pub keeps : KeptAll es ms f
+  pub keeps : PreservedAll es ms f
 
 -- these bytes more
 abbrev pub GoesOn : FrameState → List Message → List ℕ → FrameState → List Message → Type 0
@@ -158,8 +158,8 @@ GoesOn f ms x g ns = (old : Standing) (es : List Entry) (done : List ℕ) → So
     SoFar old es (done ++ x) ns g
 
 -- the entries that stood first are there as yet, in the first packet, or in the frame that stands open
-abbrev pub StillKept : FrameState → List Message → FrameState → List Message → Type 0
-StillKept f ms g ns = (old : Standing) (es : List Entry) (done : List ℕ) → SoFar old es done ms f →
+abbrev pub StillPreserved : FrameState → List Message → FrameState → List Message → Type 0
+StillPreserved f ms g ns = (old : Standing) (es : List Entry) (done : List ℕ) → SoFar old es done ms f →
     IsFront es (front_entries ns g.entries)
 
 -- So many of these bytes were taken; or none were, since more are needed, and nothing changed.

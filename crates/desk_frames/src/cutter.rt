@@ -3,10 +3,10 @@
 ghost use Rattle.std.specs.Prelude.{◌≡◌, ◌≤◌, ◌<◌, ◌+◌, ◌++◌, ◌↔◌, [], Some, IfOk, OnOk, OnErr, IsTrue, length};
 ghost use Rattle.std.specs.Prelude.{take, drop};
 ghost use Rattle.desk_frames.specs.declared.cutter.TheConstants.{ROOM_BYTES};
-ghost use Rattle.desk_frames.specs.Frame.{HasTaken, HasCut, StillKept, Stands, Awaits};
+ghost use Rattle.desk_frames.specs.Frame.{HasTaken, HasCut, StillPreserved, Stands, Awaits};
 ghost use Rattle.desk_frames.specs.Frame.{front_entries};
 ghost use Rattle.desk_frames.specs.Reading.{listed, end_answer};
-ghost use Rattle.desk_frames.specs.Stream.{Open, Stopped, Came, Fed, told};
+ghost use Rattle.desk_frames.specs.Stream.{Open, Stopped, Came, Fed, viewed};
 
 use crate::frame::{OpenFrame, Place};
 use crate::front::front_of;
@@ -73,7 +73,7 @@ fn step(
 ) -> Result<Option<usize>, WantOfMemory>
     ensures ok { IfOk result (λ count.
         HasTaken bytes.now frame.old packets.old.items count frame.new packets.new.items) }
-    ensures err { OnErr result (StillKept frame.old packets.old.items frame.new packets.new.items) }
+    ensures err { OnErr result (StillPreserved frame.old packets.old.items frame.new packets.new.items) }
 {
     let Some((count, packet)) = frame.step(bytes)? else {
         return Ok(None);
@@ -98,12 +98,12 @@ fn cut<'a>(
     ensures stands { OnOk result (Stands frame.new.place frame.new.entries) }
     ensures ok { IfOk result (λ rest.
         HasCut bytes.now frame.old packets.old.items rest.now frame.new packets.new.items) }
-    ensures err { OnErr result (StillKept frame.old packets.old.items frame.new packets.new.items) }
+    ensures err { OnErr result (StillPreserved frame.old packets.old.items frame.new packets.new.items) }
 {
     let mut rest = bytes;
     while let Some(count) = step(frame, rest, packets)? {
-        let (_, behind) = rest.split_at(count);
-        rest = behind;
+        let (_, beyond) = rest.split_at(count);
+        rest = beyond;
     }
     frame.stands();
     Ok(rest)
@@ -123,7 +123,7 @@ fn cut_rest(
     ensures stands { OnOk result (Stands frame.new.place frame.new.entries) }
     ensures ok { IfOk result (λ left.
         HasCut bytes.now frame.old packets.old.items (take left room.new) frame.new packets.new.items) }
-    ensures err { OnErr result (StillKept frame.old packets.old.items frame.new packets.new.items) }
+    ensures err { OnErr result (StillPreserved frame.old packets.old.items frame.new packets.new.items) }
     ensures unchanged { OnErr result (room.new ≡ room.old) }
 {
     let left = cut(frame, bytes, packets)?;
@@ -149,7 +149,7 @@ fn cut_piece(
     ensures ok { IfOk result (λ left.
         HasCut (take filled room.old ++ piece.now) frame.old packets.old.items (take left room.new)
         frame.new packets.new.items) }
-    ensures err { OnErr result (StillKept frame.old packets.old.items frame.new packets.new.items) }
+    ensures err { OnErr result (StillPreserved frame.old packets.old.items frame.new packets.new.items) }
     ensures unchanged { OnErr result (take filled room.new ≡ take filled room.old) }
 {
     if filled == 0 {
@@ -160,8 +160,8 @@ fn cut_piece(
     let there = filled + front.len();
     match step(frame, &room[..there], packets)? {
         Some(count) => {
-            let (_, behind) = piece.split_at(count - filled);
-            cut_rest(frame, room, behind, packets)
+            let (_, beyond) = piece.split_at(count - filled);
+            cut_rest(frame, room, beyond, packets)
         }
         // (a full room holds all that is needed)
         None => {
@@ -260,7 +260,7 @@ impl FrameCutter {
 
     /// Takes the next piece of the stream, and gives the packets that are whole now.
     pub(crate) fn feed(&mut self, piece: &[u8]) -> Result<Vec<Packet>, FrameFault>
-        ensures { Fed self.old piece.now (told (λ v. v.items) result) self.new }
+        ensures { Fed self.old piece.now (viewed (λ v. v.items) result) self.new }
     {
         if self.is_stopped() {
             return Err(FrameFault {

@@ -2,8 +2,16 @@
 
 ghost use Rattle.std.specs.Prelude.{◌≡◌, ◌≤◌, ◌<◌, [], length, take, IfOk, OnErr};
 ghost use Rattle.desk_frames.specs.declared.frame.Place.TheVariants as places;
-ghost use Rattle.desk_frames.specs.Frame.{Stands, IsOpen, Stepped, Behind, IsAwaited, behind_length, behind_part};
-ghost use Rattle.desk_frames.specs.Stream.{told_length};
+ghost use Rattle.desk_frames.specs.Frame.{
+  Stands,
+  IsOpen,
+  Stepped,
+  AfterPart,
+  IsAwaited,
+  place_after_length,
+  place_after_part,
+};
+ghost use Rattle.desk_frames.specs.Stream.{announced_length};
 ghost use Rattle.desk_frames.specs.Whole.{log_in};
 
 use crate::front::front_of;
@@ -21,11 +29,12 @@ pub(crate) enum Place {
     Length,
     /// A packet of so many bytes begins.
     Start {
-        told: usize,
+        announced: usize,
     },
-    /// An entry comes next. The packet has `told` bytes, of which `left` come from this entry on, and `more` entries.
+    /// An entry comes next. The packet has `announced` bytes, of which `left` come from this entry on, and `more`
+    /// entries.
     Entries {
-        told: usize,
+        announced: usize,
         left: usize,
         start: PacketStart,
         more: u32,
@@ -67,19 +76,19 @@ impl Model for OpenFrame {
 }
 
 /// The length that a frame's first four bytes tell.
-fn length_told(bytes: &[u8]) -> usize
+fn length_announced(bytes: &[u8]) -> usize
     requires { 4 ≤ length bytes.now }
-    ensures { result ≡ told_length bytes.now }
+    ensures { result ≡ announced_length bytes.now }
 {
     u32::from_be_bytes([bytes[0], bytes[1], bytes[2], bytes[3]]) as usize
 }
 
 /// The place after a frame's length.
-fn behind_length(told: usize) -> Place
-    ensures { result ≡ behind_length told }
+fn place_after_length(announced: usize) -> Place
+    ensures { result ≡ place_after_length announced }
 {
-    if HEAD_BYTES <= told && told <= FRAME_BYTES {
-        Place::Start { told }
+    if HEAD_BYTES <= announced && announced <= FRAME_BYTES {
+        Place::Start { announced }
     } else {
         Place::Stopped
     }
@@ -88,23 +97,23 @@ fn behind_length(told: usize) -> Place
 /// Goes on after a packet's start or an entry: with the next entry, or after the packet, which it gives.
 fn go_on(
     alloc: Global,
-    told: usize,
+    announced: usize,
     left: usize,
     start: PacketStart,
     more: u32,
     entries: &mut Vec<Entry>,
 ) -> (Place, Option<Packet>)
-    requires { IsOpen told left start entries.old.items more }
-    ensures behind { Behind told start entries.old.items result.1 result.0 entries.new.items }
+    requires { IsOpen announced left start entries.old.items more }
+    ensures after { AfterPart announced start entries.old.items result.1 result.0 entries.new.items }
     // Bytes that are left over are told with the frame's last byte.
-    ensures place { result.0 ≡ behind_part told left start more result.1 }
+    ensures place { result.0 ≡ place_after_part announced left start more result.1 }
 {
     if more > 0 {
         if left == 0 {
             return (Place::Stopped, None);
         }
         let place = Place::Entries {
-            told,
+            announced,
             left,
             start,
             more,
@@ -164,17 +173,17 @@ impl OpenFrame {
     }
 
     /// Takes what a packet begins with, where it is there.
-    fn take_start(&mut self, told: usize, bytes: &[u8]) -> Option<(usize, Option<Packet>)>
-        requires place { self.old.place ≡ places.Start told }
+    fn take_start(&mut self, announced: usize, bytes: &[u8]) -> Option<(usize, Option<Packet>)>
+        requires place { self.old.place ≡ places.Start announced }
         requires some { 0 < length bytes.now }
         ensures { Stepped self.old bytes.now result self.new }
     {
-        match front_start(front_of(bytes, told)) {
+        match front_start(front_of(bytes, announced)) {
             Ok((start, count)) => {
                 let (place, packet) = go_on(
                     self.alloc,
-                    told,
-                    told - count,
+                    announced,
+                    announced - count,
                     start,
                     start.count,
                     &mut self.entries,
@@ -187,11 +196,11 @@ impl OpenFrame {
                 Some((bytes.len(), None))
             }
             Err(Lack::Needs) => {
-                if bytes.len() < told {
+                if bytes.len() < announced {
                     return None;
                 }
                 self.place = Place::Stopped;
-                Some((told, None))
+                Some((announced, None))
             }
         }
     }
@@ -199,13 +208,13 @@ impl OpenFrame {
     /// Takes the next entry of a packet, where it is there.
     fn take_entry(
         &mut self,
-        told: usize,
+        announced: usize,
         left: usize,
         start: PacketStart,
         more: u32,
         bytes: &[u8],
     ) -> Result<Option<(usize, Option<Packet>)>, WantOfMemory>
-        requires place { self.old.place ≡ places.Entries told left start more }
+        requires place { self.old.place ≡ places.Entries announced left start more }
         requires some { 0 < length bytes.now }
         ensures ok { IfOk result (λ step. Stepped self.old bytes.now step self.new) }
         ensures err { OnErr result (self.new ≡ self.old) }
@@ -216,7 +225,7 @@ impl OpenFrame {
                 self.entries.push(entry)?;
                 let (place, packet) = go_on(
                     self.alloc,
-                    told,
+                    announced,
                     left - count,
                     start,
                     more - 1,
@@ -247,7 +256,7 @@ impl OpenFrame {
         if bytes.len() < 4 {
             return None;
         }
-        self.place = behind_length(length_told(bytes));
+        self.place = place_after_length(length_announced(bytes));
         Some((4, None))
     }
 
@@ -293,13 +302,13 @@ impl OpenFrame {
         }
         match place {
             Place::Length => Ok(self.take_length(bytes)),
-            Place::Start { told } => Ok(self.take_start(told, bytes)),
+            Place::Start { announced } => Ok(self.take_start(announced, bytes)),
             Place::Entries {
-                told,
+                announced,
                 left,
                 start,
                 more,
-            } => self.take_entry(told, left, start, more, bytes),
+            } => self.take_entry(announced, left, start, more, bytes),
             Place::Doomed { left } => Ok(self.pass(left, bytes)),
             Place::Stopped => Ok(self.pass_all(bytes)),
         }

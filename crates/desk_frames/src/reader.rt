@@ -4,7 +4,7 @@ ghost use Rattle.std.specs.Prelude.{◌≡◌, ◌≢◌, ◌<◌, ◌+◌, ◌�
 ghost use Rattle.std.specs.Io.KnownBytes.{Keeps};
 ghost use Rattle.desk_types.specs.declared.limits.TheConstants.{STREAM_READS};
 ghost use Rattle.desk_types.specs.declared.refusal.Refusal.TheVariants as refusals;
-ghost use Rattle.desk_frames.specs.Stream.{Open, Fed, told};
+ghost use Rattle.desk_frames.specs.Stream.{Open, Fed, viewed};
 ghost use Rattle.desk_frames.specs.Reading.{FedPiece, IsRead, end_answer, listed};
 
 use crate::cutter::FrameCutter;
@@ -63,7 +63,7 @@ impl FrameReader {
     /// Takes the next piece of the stream, and gives the packets that are whole now. Refused are bytes that no frame
     /// begins with, by 42 from then on, and want of memory, by 40, after which the piece can be fed again.
     pub fn feed(&mut self, piece: &[u8]) -> Result<Vec<Packet>, FrameFault>
-        ensures fed { Fed self.old.standing piece.now (told (λ v. v.items) result) self.new.standing }
+        ensures fed { Fed self.old.standing piece.now (viewed (λ v. v.items) result) self.new.standing }
         ensures waiting { self.new.waiting ≡ self.old.waiting }
         ensures reads { self.new.reads ≡ self.old.reads }
     {

@@ -14,8 +14,8 @@ use Rattle.desk_node.specs.Heard.{Says}
 use Rattle.desk_node.specs.Rules.{node_step}
 use Rattle.desk_node.specs.State.{State}
 use Rattle.desk_threads.specs.Keeper.{KeeperState, KeeperStep, keeper_step, tick_event, suspects, TakesItem}
-use Rattle.desk_threads.specs.Keeper.{kept}
-use Rattle.desk_threads.specs.KeptValue.{KeptValue, state_of, IsStateOf}
+use Rattle.desk_threads.specs.Keeper.{owned}
+use Rattle.desk_threads.specs.OwnedValue.{OwnedValue, state_of, IsStateOf}
 use Rattle.desk_world.specs.declared.world_event.WorldEvent.{WorldEvent}
 use Rattle.desk_world.specs.World.{World, first_state, first_world, world_from, node_of_world}
 use Rattle.desk_world.proofs.WorldInvariants.{world_from-append}
@@ -81,26 +81,26 @@ all_later : (ps qs : List (ℕ × Message)) (i : ℕ) (turn : List Item) →
 all_later ps qs i [] f h = tt
 all_later ps qs i (item ∷ more) f h = (handed_later ps qs i item f h.0, all_later ps qs i more f h.1)
 
-kept_moves : (domain : List ℕ) (n i : ℕ) (w : World) (k : KeeperState) (turn : List Item)
+preserved_moves : (domain : List ℕ) (n i : ℕ) (w : World) (k : KeeperState) (turn : List Item)
     (packets : List (ℕ × Message)) (new : KeeperState) → i < length w.nodes → k.node ≡ node_of_world w i →
-    AllByRecursion (WasHanded w.packets i) turn → kept domain i n k turn packets new →
+    AllByRecursion (WasHanded w.packets i) turn → TakesItems domain i n k turn packets new →
     Moved domain n i w new.node packets
-kept_moves domain n i w k [] packets new within is sent does =
+preserved_moves domain n i w k [] packets new within is sent does =
     same_moves domain n i w (node_of_world w i) new.node [] packets
     (sym is ∙ sym (ap (λ (x : KeeperState). x.node) does.0)) (sym does.1) (stays domain n i w)
-kept_moves domain n i w k (item ∷ more) packets new within is sent (mid, first, rest, one, others, all) =
+preserved_moves domain n i w k (item ∷ more) packets new within is sent (mid, first, rest, one, others, all) =
     let m : Moved domain n i w mid.node first = takes_moves domain n i w k item first mid within is sent.0 one in
     let later : World = world_from domain n w m.events in
     let grows : (s : ℕ × Message) → Contains w.packets s → Contains later.packets s =
     λ s c. subst (λ (ps : List (ℕ × Message)). Contains ps s) (sym m.sent) (Contains-append_left w.packets first s c) in
     let rests : Moved domain n i later new.node rest =
-    kept_moves domain n i later mid more rest new (subst (λ x. i < x) (sym m.count) within) (sym m.here)
+    preserved_moves domain n i later mid more rest new (subst (λ x. i < x) (sym m.count) within) (sym m.here)
     (all_later w.packets later.packets i more grows sent.1) others in
     same_moves domain n i w new.node new.node (first ++ rest) packets refl (sym all)
     (goes_on domain n i w mid.node new.node first rest m rests)
 
 -- The keeper is node i of n, saves what the world's node saves, and holds what that node's packets say.
-pub record IsKeeperOf (domain : List ℕ) (n i : ℕ) (k : KeptValue) (s : State) : Type 0 where
+pub record IsKeeperOf (domain : List ℕ) (n i : ℕ) (k : OwnedValue) (s : State) : Type 0 where
   pub domain_is : k.node.domain ≡ domain
   pub id_is : k.node.id ≡ i
   pub n_is : k.node.n ≡ n
@@ -114,16 +114,17 @@ pub record StandsFor (domain : List ℕ) (n : ℕ) (g : Keepers) (w : World) : T
   pub sent : (s : ℕ × Message) → Contains g.handed s → Contains w.packets s
 
 -- what a turn does in the world, and the keeper after it
-record TurnMoves (domain : List ℕ) (n i : ℕ) (w : World) (packets : List (ℕ × Message)) (new : KeptValue) : Type 0 where
-  state : State
-  moved : Moved domain n i w state packets
-  is : IsKeeperOf domain n i new state
+record TurnMoves (domain : List ℕ) (n i : ℕ) (w : World) (packets : List (ℕ × Message)) (new : OwnedValue) : Type 0
+  where
+    state : State
+    moved : Moved domain n i w state packets
+    is : IsKeeperOf domain n i new state
 
 turn_moves : (domain : List ℕ) (n i : ℕ) (g : Keepers) (w : World) (turn : List Item) (packets : List (ℕ × Message))
-    (new : KeptValue) → i < n → StandsFor domain n g w → OneTurn i g turn packets new →
+    (new : OwnedValue) → i < n → StandsFor domain n g w → OneTurn i g turn packets new →
     TurnMoves domain n i w packets new
 turn_moves domain n i g w turn packets new small stands t =
-    let old : KeptValue = g.keepers i in
+    let old : OwnedValue = g.keepers i in
     let s : State = node_of_world w i in
     let is : IsKeeperOf domain n i old s = stands.keepers i in
     let says : Says old.node.n old.node.saved.view s.received old.node.heard = rw (is.n_is, is.saved_is) is.says in
@@ -132,15 +133,15 @@ turn_moves domain n i g w turn packets new small stands t =
     let begin : KeeperState = state_of old s.received in
     let node_is : begin.node ≡ s =
     ap (λ (x : SavedValue). record { saved = x; received = s.received }) is.saved_is in
-    let did : kept domain i n begin turn packets k =
-    subst (λ (x : List ℕ). kept x i n begin turn packets k) is.domain_is
-    (subst (λ (j : ℕ). kept old.node.domain j n begin turn packets k) is.id_is
-    (subst (λ (m : ℕ). kept old.node.domain old.node.id m begin turn packets k) is.n_is d.1)) in
+    let did : TakesItems domain i n begin turn packets k =
+    subst (λ (x : List ℕ). TakesItems x i n begin turn packets k) is.domain_is
+    (subst (λ (j : ℕ). TakesItems old.node.domain j n begin turn packets k) is.id_is
+    (subst (λ (m : ℕ). TakesItems old.node.domain old.node.id m begin turn packets k) is.n_is d.1)) in
     let new_is : IsStateOf n new k = subst (λ (m : ℕ). IsStateOf m new k) is.n_is d.2 in
     let saved_same : k.node.saved ≡ new.node.saved = ap (λ (x : KeeperState). x.node.saved) new_is.state_is in
     record {
       state = k.node;
-      moved = kept_moves domain n i w begin turn packets k (subst (λ x. i < x) (sym stands.count) small) node_is
+      moved = preserved_moves domain n i w begin turn packets k (subst (λ x. i < x) (sym stands.count) small) node_is
           (all_later g.handed w.packets i turn stands.sent t.handed) did;
       is = record {
         domain_is = t.does.same.domain_is ∙ is.domain_is;
@@ -157,7 +158,7 @@ pub record GoesOn (domain : List ℕ) (n : ℕ) (w : World) (new : Keepers) : Ty
   pub stands : StandsFor domain n new (world_from domain n w events)
 
 becomes : (domain : List ℕ) (n i : ℕ) (old new : Keepers) (w : World) (s : State) (ps : List (ℕ × Message))
-    (k : KeptValue) → StandsFor domain n old w → KeeperBecomes n i old k new → IsKeeperOf domain n i k s →
+    (k : OwnedValue) → StandsFor domain n old w → KeeperBecomes n i old k new → IsKeeperOf domain n i k s →
     Moved domain n i w s ps →
     ((x : ℕ × Message) → Contains new.handed x → Contains old.handed x ⊎ Contains ps x) → GoesOn domain n w new
 becomes domain n i old new w s ps k stands b is m handed =
@@ -181,10 +182,10 @@ becomes domain n i old new w s ps k stands b is m handed =
     by_node later j (inl e) here there =
         subst (λ (l : ℕ). IsKeeperOf domain n l (new.keepers l) (node_of_world later l)) (sym e)
         (subst (λ (x : State). IsKeeperOf domain n i (new.keepers i) x) here
-        (subst (λ (x : KeptValue). IsKeeperOf domain n i x s) (sym b.here) is))
+        (subst (λ (x : OwnedValue). IsKeeperOf domain n i x s) (sym b.here) is))
     by_node later j (inr ne) here there =
         subst (λ (x : State). IsKeeperOf domain n j (new.keepers j) x) (there ne)
-        (subst (λ (x : KeptValue). IsKeeperOf domain n j x (node_of_world w j)) (sym (b.there j ne))
+        (subst (λ (x : OwnedValue). IsKeeperOf domain n j x (node_of_world w j)) (sym (b.there j ne))
         (stands.keepers j))
 
 -- what a restart leaves

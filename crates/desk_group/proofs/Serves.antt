@@ -10,14 +10,14 @@ use Rattle.desk_normal.specs.Rules.{on_request, admitted_request, append_request
 use Rattle.desk_normal.specs.Rules.{on_prepare_ok, commit_acknowledged}
 use Rattle.desk_node.specs.HeldStep.{held_step}
 use Rattle.desk_node.specs.Rules.{on_packet_within, on_packet}
-use Rattle.desk_threads.specs.KeptValue.{KeptValue}
+use Rattle.desk_threads.specs.OwnedValue.{OwnedValue}
 use Rattle.desk_threads.proofs.ItemsInOrder.{keeps_one}
 use Rattle.desk_group.specs.Group.{Keepers, Takes, WasHanded, Happens, started_group}
 use Rattle.desk_group.specs.Serves.{EachItemIsTaken, Serves}
 use Rattle.desk_group.proofs.Split.{Done, item_done}
 
 -- the group after node i took an item
-abbrev with_keeper : Keepers → ℕ → KeptValue → List (ℕ × Message) → Keepers
+abbrev with_keeper : Keepers → ℕ → OwnedValue → List (ℕ × Message) → Keepers
 with_keeper g i k packets =
     record { keepers = λ j. if eqb j i then k else g.keepers j; handed = g.handed ++ packets }
 

@@ -8,11 +8,11 @@ use Rattle.desk_log.specs.SavedValue.{SavedValue, initial_saved, committed_entri
 use Rattle.desk_mailbox.specs.declared.item.Item.{Item}
 use Rattle.desk_mailbox.specs.declared.item.Item.TheVariants as items
 use Rattle.desk_node.specs.NodeValue.{node_from}
-use Rattle.desk_threads.specs.KeptValue.{KeptValue, DoesItems}
+use Rattle.desk_threads.specs.OwnedValue.{OwnedValue, DoesItems}
 
 -- the keeper of each node, and all packets that were ever handed out, each with its receiver
 pub record Keepers : Type 0 where
-  pub keepers : ℕ → KeptValue
+  pub keepers : ℕ → OwnedValue
   pub handed : List (ℕ × Message)
 
 -- What happens: a node's keeper takes a turn of items, which share a save; its process ends in a turn that was saved,
@@ -24,7 +24,7 @@ pub data Act : Type 0 where
   Restarts : ℕ → Act
 
 -- the keeper of node i of n that goes on from a saved state
-abbrev pub started : List ℕ → ℕ → ℕ → SavedValue → KeptValue
+abbrev pub started : List ℕ → ℕ → ℕ → SavedValue → OwnedValue
 started domain n i saved =
     record { node = node_from (record { domain = domain; id = i; n = n }) saved; ticks = 0; refused = 0 }
 
@@ -40,13 +40,13 @@ WasHanded handed i items.Tick = Unit {0}
 WasHanded handed i items.Stop = Unit {0}
 
 -- Node i's keeper is this one now; no other has changed.
-pub record KeeperBecomes (n i : ℕ) (old : Keepers) (keeper : KeptValue) (new : Keepers) : Type 0 where
+pub record KeeperBecomes (n i : ℕ) (old : Keepers) (keeper : OwnedValue) (new : Keepers) : Type 0 where
   pub is_node : i < n
   pub here : new.keepers i ≡ keeper
   pub there : (j : ℕ) → j ≢ i → new.keepers j ≡ old.keepers j
 
 -- A turn of node i, each packet of which was handed out before, leads to this keeper and gives these packets.
-pub record OneTurn (i : ℕ) (old : Keepers) (turn : List Item) (packets : List (ℕ × Message)) (new : KeptValue) :
+pub record OneTurn (i : ℕ) (old : Keepers) (turn : List Item) (packets : List (ℕ × Message)) (new : OwnedValue) :
     Type 0 where
   pub handed : AllByRecursion (WasHanded old.handed i) turn
   pub does : DoesItems (old.keepers i) turn packets new
@@ -54,11 +54,11 @@ pub record OneTurn (i : ℕ) (old : Keepers) (turn : List Item) (packets : List 
 -- What happens leads from a group to another.
 abbrev pub Happens : List ℕ → ℕ → Keepers → Act → Keepers → Type 0
 Happens domain n old (Takes i turn) new =
-    (kept : KeptValue) × (packets : List (ℕ × Message)) × OneTurn i old turn packets kept
-    × KeeperBecomes n i old kept new × (new.handed ≡ old.handed ++ packets)
+    (owned : OwnedValue) × (packets : List (ℕ × Message)) × OneTurn i old turn packets owned
+    × KeeperBecomes n i old owned new × (new.handed ≡ old.handed ++ packets)
 Happens domain n old (Breaks i turn count) new =
-    (kept : KeptValue) × (packets : List (ℕ × Message)) × OneTurn i old turn packets kept
-    × KeeperBecomes n i old (started domain n i kept.node.saved) new
+    (owned : OwnedValue) × (packets : List (ℕ × Message)) × OneTurn i old turn packets owned
+    × KeeperBecomes n i old (started domain n i owned.node.saved) new
     × (new.handed ≡ old.handed ++ take count packets)
 Happens domain n old (Restarts i) new =
     KeeperBecomes n i old (started domain n i (old.keepers i).node.saved) new × (new.handed ≡ old.handed)

@@ -4,29 +4,29 @@ use Rattle.desk_types.specs.declared.packet.Message.{Message}
 use Rattle.desk_mailbox.specs.declared.item.Item.{Item}
 use Rattle.desk_node.specs.Heard.{Says}
 use Rattle.desk_node.specs.NodeValue.{IsSameNode}
-use Rattle.desk_threads.specs.KeptValue.{KeptValue, DoesItem, DoesItems, with_one_refused}
+use Rattle.desk_threads.specs.OwnedValue.{OwnedValue, DoesItem, DoesItems, with_one_refused}
 use Rattle.desk_group.specs.Group.{Keepers, Act, Takes, Breaks, Restarts, Runs}
 
 -- There are packets that say what the node holds, as of each node that began with none.
-abbrev pub IsSaid : KeptValue → Type 0
+abbrev pub IsSaid : OwnedValue → Type 0
 IsSaid k = (received : List Message) × Says k.node.n k.node.saved.view received k.node.heard
 
 -- What `handle` promises of an item is a turn of it, whether it was done or refused.
 pub record HandledIsTurn : Type 0 where
-  pub done : (old new : KeptValue) (item : Item) (packets : List (ℕ × Message)) → IsSameNode old.node new.node →
+  pub done : (old new : OwnedValue) (item : Item) (packets : List (ℕ × Message)) → IsSameNode old.node new.node →
       DoesItem old item packets new → DoesItems old (item ∷ []) packets new
-  pub refused : (old : KeptValue) (item : Item) → DoesItems old (item ∷ []) [] (with_one_refused old)
+  pub refused : (old : OwnedValue) (item : Item) → DoesItems old (item ∷ []) [] (with_one_refused old)
 
 -- Turns of one item each, one after the other, and their packets in order.
-abbrev pub OneByOne : KeptValue → List Item → List (ℕ × Message) → KeptValue → Type 0
+abbrev pub OneByOne : OwnedValue → List Item → List (ℕ × Message) → OwnedValue → Type 0
 OneByOne old [] packets new = DoesItems old [] packets new
 OneByOne old (item ∷ more) packets new =
-    (mid : KeptValue) × (first : List (ℕ × Message)) × (rest : List (ℕ × Message))
+    (mid : OwnedValue) × (first : List (ℕ × Message)) × (rest : List (ℕ × Message))
     × DoesItems old (item ∷ []) first mid × OneByOne mid more rest new × (packets ≡ first ++ rest)
 
 -- What `run` promises of all that it took are such turns.
 abbrev pub RunIsTurns : Type 0
-RunIsTurns = (old new : KeptValue) (list : List Item) (packets : List (ℕ × Message)) → IsSaid old →
+RunIsTurns = (old new : OwnedValue) (list : List Item) (packets : List (ℕ × Message)) → IsSaid old →
     DoesItems old list packets new → OneByOne old list packets new
 
 -- what node i took, in order

@@ -135,9 +135,10 @@ pub calls-at : (n : ℕ) (es : List (List ℕ × ℕ)) (ks : List ℕ) → ks �
 calls-at n es ks h = plain es ks ∙ ap (each_of (λ k. call_at es (k - 0))) h ∙ calls-from n 0 es
 
 -- numbers that keep their lists
-pub listed-kept : {V : Type 0} (old new : List (ℕ × V)) → ((n : ℕ) → has_list n old ≡ true → has_list n new ≡ true) →
+pub listed-preserved : {V : Type 0} (old new : List (ℕ × V)) →
+    ((n : ℕ) → has_list n old ≡ true → has_list n new ≡ true) →
     (listed : List ℕ) → keys_of old ≡ listed → (n : ℕ) → is_listed n listed ≡ true → is_listed n (keys_of new) ≡ true
-listed-kept old new w listed v n h =
+listed-preserved old new w listed v n h =
     sym (has_list-listed n new) ∙ w n (has_list-listed n old ∙ ap (is_listed n) v ∙ h)
 
 pub listed-same : {V : Type 0} (old new : List (ℕ × V)) → ((n : ℕ) → has_list n new ≡ has_list n old) →

@@ -20,11 +20,11 @@ abbrev pub with_link : List Linked → Linked → List Linked
 with_link linked l = cond ((l.incident == l.other) || has_link l linked) linked (linked ++ l ∷ [])
 
 -- links after a merge, put one after the other after those that were put before. After none they are
--- `links_after_merge`, as `moved_behind-none` proves
-abbrev pub moved_behind : ℕ → ℕ → List Linked → List Linked → List Linked
-moved_behind incident into seen [] = seen
-moved_behind incident into seen (l ∷ linked) =
-    moved_behind incident into (with_link seen (link_after_merge incident into l)) linked
+-- `links_after_merge`, as `moved_after-none` proves
+abbrev pub moved_after : ℕ → ℕ → List Linked → List Linked → List Linked
+moved_after incident into seen [] = seen
+moved_after incident into seen (l ∷ linked) =
+    moved_after incident into (with_link seen (link_after_merge incident into l)) linked
 
 -- two filters that are one
 
@@ -92,12 +92,12 @@ one_more m false false seen ms e =
     ∙ ap (λ v. seen ++ cond (not v) (m ∷ rest) rest) (sym e)
 
 -- after others stand the links after a merge that are not among them
-moved_behind-new : (a b : ℕ) (seen linked : List Linked) →
-    moved_behind a b seen linked ≡ seen ++ filter (is_new seen) (links_after_merge a b linked)
-moved_behind-new a b seen [] = sym (append-nil seen)
-moved_behind-new a b seen (l ∷ linked) =
+moved_after-new : (a b : ℕ) (seen linked : List Linked) →
+    moved_after a b seen linked ≡ seen ++ filter (is_new seen) (links_after_merge a b linked)
+moved_after-new a b seen [] = sym (append-nil seen)
+moved_after-new a b seen (l ∷ linked) =
     let m : Linked = link_after_merge a b l in
-    moved_behind-new a b (with_link seen m) linked
+    moved_after-new a b (with_link seen m) linked
     ∙ one_more m (m.incident == m.other) (has_link m seen) seen
     (filter joins_two (map (link_after_merge a b) linked)) refl
 
@@ -106,8 +106,8 @@ all_new [] = refl
 all_new (l ∷ ls) = ap (λ ms. l ∷ ms) (all_new ls)
 
 -- after none stand the links after a merge
-pub moved_behind-none : (a b : ℕ) (linked : List Linked) → moved_behind a b [] linked ≡ links_after_merge a b linked
-moved_behind-none a b linked = moved_behind-new a b [] linked ∙ all_new (links_after_merge a b linked)
+pub moved_after-none : (a b : ℕ) (linked : List Linked) → moved_after a b [] linked ≡ links_after_merge a b linked
+moved_after-none a b linked = moved_after-new a b [] linked ∙ all_new (links_after_merge a b linked)
 
 -- each of the links after a merge is there once, with the smaller number first
 
@@ -121,12 +121,12 @@ fewer_step true p x xs ys h = omega (arith, count_more p x xs, count_more p x ys
 fewer_step false p x xs ys h = omega (arith, count_more p x xs, h)
 
 -- of fewer links fewer pass
-pub count_kept : (p q : Linked → Bool) (xs : List Linked) → count_by p (filter q xs) ≤ count_by p xs
-count_kept p q [] = at_most (count_by p [])
+pub count_preserved : (p q : Linked → Bool) (xs : List Linked) → count_by p (filter q xs) ≤ count_by p xs
+count_preserved p q [] = at_most (count_by p [])
   where
     at_most : (n : ℕ) → n ≤ n
     at_most n = omega arith
-count_kept p q (x ∷ xs) = fewer_step (q x) p x xs (filter q xs) (count_kept p q xs)
+count_preserved p q (x ∷ xs) = fewer_step (q x) p x xs (filter q xs) (count_preserved p q xs)
 
 none_step_here : (t u : Bool) (p : Linked → Bool) (x : Linked) (ys : List Linked) → p x ≡ u → (u ≡ true → t ≡ false) →
     count_by p ys ≡ 0 → count_by p (cond t (x ∷ ys) ys) ≡ 0
@@ -151,7 +151,7 @@ once_step m l true ls e h =
     omega (arith, count_more (λ k. same_link k m) l (without_link l ls), none, one)
 once_step m l false ls e h =
     let less : count_by (λ k. same_link k m) (without_link l ls) ≤ count_by (λ k. same_link k m) ls =
-    count_kept (λ k. same_link k m) (λ k. not (same_link k l)) ls in
+    count_preserved (λ k. same_link k m) (λ k. not (same_link k l)) ls in
     let none : cond {A = ℕ} (same_link l m) 1 0 ≡ 0 = ap (λ t. cond {A = ℕ} t 1 0) e in
     omega (arith, count_more (λ k. same_link k m) l (without_link l ls), less, none, h)
 

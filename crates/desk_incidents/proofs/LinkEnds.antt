@@ -121,16 +121,17 @@ touches-left a b l d =
     ∙ or_from _ _ (left_number a b l.incident (l.incident == a) refl d)
     (left_number a b l.other (l.other == a) refl d)
 
-kept_number : (a b x : ℕ) (t : Bool) → (x == a) ≡ t → t ≡ false → cond t b x ≡ x
-kept_number a b x true e h = absurd (true≢false h)
-kept_number a b x false e h = refl
+preserved_number : (a b x : ℕ) (t : Bool) → (x == a) ≡ t → t ≡ false → cond t b x ≡ x
+preserved_number a b x true e h = absurd (true≢false h)
+preserved_number a b x false e h = refl
 
 -- a link of others stays
-pub link-kept : (a b : ℕ) (l : Linked) → touches a l ≡ false → l.incident < l.other → link_after_merge a b l ≡ l
-link-kept a b l h o =
+pub link-preserved : (a b : ℕ) (l : Linked) → touches a l ≡ false → l.incident < l.other → link_after_merge a b l ≡ l
+link-preserved a b l h o =
     let parts : ((l.incident == a) ≡ false) × ((l.other == a) ≡ false) = or_parts _ _ h in
-    ap (λ x. new_link x (number_after_merge a b l.other)) (kept_number a b l.incident (l.incident == a) refl parts.0)
-    ∙ ap (λ y. new_link l.incident y) (kept_number a b l.other (l.other == a) refl parts.1)
+    ap (λ x. new_link x (number_after_merge a b l.other))
+    (preserved_number a b l.incident (l.incident == a) refl parts.0)
+    ∙ ap (λ y. new_link l.incident y) (preserved_number a b l.other (l.other == a) refl parts.1)
     ∙ sym (link_is l l.incident l.other refl refl o)
 
 moved_number : (a b x : ℕ) (t : Bool) → t ≡ true → cond t b x ≡ b
@@ -152,14 +153,15 @@ of_merged a b l o h (inl e) =
     let far : far_end a b l ≡ l.other = far_is a b l true (or_left _ _ e) in
     let apart : (l.other == a) ≡ false = ne_eqb _ _ (λ s. omega (arith, s, eqb-true _ _ e, o)) in (
       ap (λ x. new_link x (number_after_merge a b l.other)) (moved_number a b l.incident (l.incident == a) e)
-          ∙ ap (λ y. new_link b y) (kept_number a b l.other (l.other == a) refl apart ∙ sym far),
+          ∙ ap (λ y. new_link b y) (preserved_number a b l.other (l.other == a) refl apart ∙ sym far),
       λ s. eqb-false _ _ parts.1 (sym far ∙ s),
     )
 of_merged a b l o h (inr e) =
     let parts : ((l.incident == b) ≡ false) × ((l.other == b) ≡ false) = or_parts _ _ h in
     let apart : (l.incident == a) ≡ false = ne_eqb _ _ (λ s. omega (arith, s, eqb-true _ _ e, o)) in
     let far : far_end a b l ≡ l.incident = far_is a b l false (or_from _ _ apart parts.0) in (
-      ap (λ x. new_link x (number_after_merge a b l.other)) (kept_number a b l.incident (l.incident == a) refl apart)
+      ap (λ x. new_link x (number_after_merge a b l.other))
+          (preserved_number a b l.incident (l.incident == a) refl apart)
           ∙ ap (λ y. new_link l.incident y) (moved_number a b l.other (l.other == a) e)
           ∙ new_link-swapped l.incident b ∙ ap (λ y. new_link b y) (sym far),
       λ s. eqb-false _ _ parts.0 (sym far ∙ s),
@@ -170,7 +172,7 @@ of_other : (a b : ℕ) (l : Linked) → l.incident < l.other → touches a l ≡
 of_other a b l o h (inl e) =
     let at : l.incident ≡ b = eqb-true _ _ e in
     let far : far_end a b l ≡ l.other = far_is a b l true (or_right (l.incident == a) _ e) in (
-      link-kept a b l h o ∙ link_is l l.incident l.other refl refl o ∙ ap (λ x. new_link x l.other) at
+      link-preserved a b l h o ∙ link_is l l.incident l.other refl refl o ∙ ap (λ x. new_link x l.other) at
           ∙ ap (λ y. new_link b y) (sym far),
       λ s. omega (arith, s, far, at, o),
     )
@@ -179,7 +181,7 @@ of_other a b l o h (inr e) =
     let parts : ((l.incident == a) ≡ false) × ((l.other == a) ≡ false) = or_parts _ _ h in
     let apart : (l.incident == b) ≡ false = ne_eqb _ _ (λ s. omega (arith, s, at, o)) in
     let far : far_end a b l ≡ l.incident = far_is a b l false (or_from _ _ parts.0 apart) in (
-      link-kept a b l h o ∙ link_is l l.incident l.other refl refl o ∙ ap (λ y. new_link l.incident y) at
+      link-preserved a b l h o ∙ link_is l l.incident l.other refl refl o ∙ ap (λ y. new_link l.incident y) at
           ∙ new_link-swapped l.incident b ∙ ap (λ y. new_link b y) (sym far),
       λ s. omega (arith, s, far, at, o),
     )

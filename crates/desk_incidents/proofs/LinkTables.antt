@@ -251,18 +251,18 @@ one_if t h = ap (λ u. cond {A = ℕ} u 1 0) h
 
 -- a link taken out
 
-kept_all : (l : Linked) (xs : List Linked) → list_any (λ m. same_link m l) xs ≡ false → xs ≡ without_link l xs
-kept_all l [] h = refl
-kept_all l (x ∷ xs) h =
+preserved_all : (l : Linked) (xs : List Linked) → list_any (λ m. same_link m l) xs ≡ false → xs ≡ without_link l xs
+preserved_all l [] h = refl
+preserved_all l (x ∷ xs) h =
     let parts : (same_link x l ≡ false) × (list_any (λ m. same_link m l) xs ≡ false) = or_parts _ _ h in
-    ap (λ ys. x ∷ ys) (kept_all l xs parts.1)
+    ap (λ ys. x ∷ ys) (preserved_all l xs parts.1)
     ∙ ap (λ t. cond (not t) (x ∷ without_link l xs) (without_link l xs)) (sym parts.0)
 
-out_later : (t : Bool) (x : Linked) (n m : ℕ) (rest kept : List Linked) → n ≡ cond t 1 0 + m → n ≤ 1 → 1 ≤ m →
-    rest ≡ kept →
-    x ∷ rest ≡ cond (not t) (x ∷ kept) kept
-out_later true x n m rest kept e o p h = absurd (omega (arith, e, o, p))
-out_later false x n m rest kept e o p h = ap (λ ys. x ∷ ys) h
+out_later : (t : Bool) (x : Linked) (n m : ℕ) (rest preserved : List Linked) → n ≡ cond t 1 0 + m → n ≤ 1 → 1 ≤ m →
+    rest ≡ preserved →
+    x ∷ rest ≡ cond (not t) (x ∷ preserved) preserved
+out_later true x n m rest preserved e o p h = absurd (omega (arith, e, o, p))
+out_later false x n m rest preserved e o p h = ap (λ ys. x ∷ ys) h
 
 pub live-without : (l : Linked) (k : ℕ) (xs : List (Option Linked)) → standing xs k ≡ Some l →
     count_by (λ m. same_link m l) (live xs) ≤ 1 →
@@ -276,7 +276,7 @@ live-without l zero (Some x ∷ xs) h o =
     (λ m. same_link m l) (live xs) =
     sum_by-cons (λ m. cond (same_link m l) 1 0) x (live xs) in
     let one : cond {A = ℕ} (same_link x l) 1 0 ≡ 1 = one_if (same_link x l) same in
-    kept_all l (live xs) (none-counted (λ m. same_link m l) (live xs) (omega (arith, first, one, o)))
+    preserved_all l (live xs) (none-counted (λ m. same_link m l) (live xs) (omega (arith, first, one, o)))
     ∙ ap (λ t. cond (not t) (x ∷ without_link l (live xs)) (without_link l (live xs))) (sym same)
 live-without l (suc k) (None ∷ xs) h o = live-without l k xs h o
 live-without l (suc k) (Some x ∷ xs) h o =
@@ -292,4 +292,4 @@ live-without l (suc k) (Some x ∷ xs) h o =
     (live-without l k xs h (omega (arith, first, o)))
 
 pub not-there : (l : Linked) (xs : List Linked) → has_link l xs ≡ false → xs ≡ without_link l xs
-not-there l xs h = kept_all l xs h
+not-there l xs h = preserved_all l xs h

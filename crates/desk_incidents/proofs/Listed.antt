@@ -18,14 +18,14 @@ use Rattle.desk_incidents.specs.Calls.{is_call, call_refusal, new_calls}
 use Rattle.desk_incidents.specs.Checks.{has_id, incident_of, number_of, not_open_refusal}
 
 -- numbers that keep their lists
-pub AreListed-kept : (old new : List ℕ) → ((n : ℕ) → is_listed n old ≡ true → is_listed n new ≡ true) →
+pub AreListed-preserved : (old new : List ℕ) → ((n : ℕ) → is_listed n old ≡ true → is_listed n new ≡ true) →
     (is : List Incident) →
     AreListed old is → AreListed new is
-AreListed-kept old new w [] a = All-nil (λ (i : Incident). is_listed i.number new ≡ true)
-AreListed-kept old new w (i ∷ is) a =
+AreListed-preserved old new w [] a = All-nil (λ (i : Incident). is_listed i.number new ≡ true)
+AreListed-preserved old new w (i ∷ is) a =
     All-cons (λ (j : Incident). is_listed j.number new ≡ true) i is
     (w i.number (All-head (λ (j : Incident). is_listed j.number old ≡ true) i is a))
-    (AreListed-kept old new w is (All-tail (λ (j : Incident). is_listed j.number old ≡ true) i is a))
+    (AreListed-preserved old new w is (All-tail (λ (j : Incident). is_listed j.number old ≡ true) i is a))
 
 -- one incident more
 pub AreListed-push : (listed : List ℕ) (is : List Incident) (i : Incident) → AreListed listed is →

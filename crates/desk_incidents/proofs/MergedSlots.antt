@@ -16,9 +16,9 @@ use Rattle.desk_incidents.specs.LinkTable.{slots_after_merge, IsLinkTable}
 use Rattle.desk_index.specs.MergedList.{merged}
 use Rattle.desk_index.specs.Slots.{live, passes, places, standing}
 use Rattle.desk_index.proofs.Slots.{from}
-use Rattle.desk_incidents.proofs.FirstLinks.{with_link, moved_behind, moved_behind-none}
+use Rattle.desk_incidents.proofs.FirstLinks.{with_link, moved_after, moved_after-none}
 use Rattle.desk_incidents.proofs.LinkEnds.{touches-new_link, touches-both, touches-left}
-use Rattle.desk_incidents.proofs.LinkEnds.{link-kept, link-moved, new_link-apart, same_link-beside}
+use Rattle.desk_incidents.proofs.LinkEnds.{link-preserved, link-moved, new_link-apart, same_link-beside}
 use Rattle.desk_incidents.proofs.LinkTables.{same_link-true, self_same, none-counted, count_last}
 
 -- 1. the slots one after the other
@@ -165,9 +165,9 @@ once_moved a b l k seen ls t h m n =
       none_if (same_link k m) other,
     )
 
-once_kept : (a b : ℕ) (l : Linked) (seen ls : List Linked) → AreOnce a b seen (l ∷ ls) →
+once_preserved : (a b : ℕ) (l : Linked) (seen ls : List Linked) → AreOnce a b seen (l ∷ ls) →
     AreOnce a b (seen ++ l ∷ []) ls
-once_kept a b l seen ls h m n =
+once_preserved a b l seen ls h m n =
     omega (arith, h m n, count_more (λ j. same_link j m) l ls, count_last (λ j. same_link j m) seen l)
 
 not_there : (a b : ℕ) (l : Linked) (seen ls : List Linked) → AreOnce a b seen (l ∷ ls) →
@@ -183,32 +183,32 @@ AreApart a b ls = All (λ l. (touches a l && touches b l) ≡ false) ls
 
 near_step : (t u : Bool) (a b c : ℕ) (m : Linked) (seen : List Linked) (ends : List ℕ) (xs : List (Option Linked)) →
     t ≡ u →
-    (u ≡ true → moved_behind a b seen (live xs) ≡ seen ++ live (merged_slots a b ends xs)) →
+    (u ≡ true → moved_after a b seen (live xs) ≡ seen ++ live (merged_slots a b ends xs)) →
     (u ≡ false →
-    moved_behind a b (seen ++ m ∷ []) (live xs) ≡ (seen ++ m ∷ []) ++ live (merged_slots a b (ends ++ c ∷ []) xs)) →
-    moved_behind a b (cond t seen (seen ++ m ∷ [])) (live xs)
+    moved_after a b (seen ++ m ∷ []) (live xs) ≡ (seen ++ m ∷ []) ++ live (merged_slots a b (ends ++ c ∷ []) xs)) →
+    moved_after a b (cond t seen (seen ++ m ∷ [])) (live xs)
     ≡ seen ++ live (cond u None (Some m) ∷ merged_slots a b (cond u ends (ends ++ c ∷ [])) xs)
 near_step t true a b c m seen ends xs e h g =
-    ap (λ v. moved_behind a b (cond v seen (seen ++ m ∷ [])) (live xs)) e ∙ h refl
+    ap (λ v. moved_after a b (cond v seen (seen ++ m ∷ [])) (live xs)) e ∙ h refl
 near_step t false a b c m seen ends xs e h g =
-    ap (λ v. moved_behind a b (cond v seen (seen ++ m ∷ [])) (live xs)) e ∙ g refl
+    ap (λ v. moved_after a b (cond v seen (seen ++ m ∷ [])) (live xs)) e ∙ g refl
     ∙ append_assoc seen (m ∷ []) (live (merged_slots a b (ends ++ c ∷ []) xs))
 
 far_step : (t : Bool) (a b : ℕ) (l m : Linked) (seen : List Linked) (ends : List ℕ) (xs : List (Option Linked)) →
     t ≡ false → m ≡ l →
-    moved_behind a b (seen ++ l ∷ []) (live xs) ≡ (seen ++ l ∷ []) ++ live (merged_slots a b ends xs) →
-    moved_behind a b (cond t seen (seen ++ m ∷ [])) (live xs) ≡ seen ++ live (Some l ∷ merged_slots a b ends xs)
+    moved_after a b (seen ++ l ∷ []) (live xs) ≡ (seen ++ l ∷ []) ++ live (merged_slots a b ends xs) →
+    moved_after a b (cond t seen (seen ++ m ∷ [])) (live xs) ≡ seen ++ live (Some l ∷ merged_slots a b ends xs)
 far_step t a b l m seen ends xs e f h =
-    ap (λ v. moved_behind a b (cond v seen (seen ++ m ∷ [])) (live xs)) e
-    ∙ ap (λ k. moved_behind a b (seen ++ k ∷ []) (live xs)) f ∙ h
+    ap (λ v. moved_after a b (cond v seen (seen ++ m ∷ [])) (live xs)) e
+    ∙ ap (λ k. moved_after a b (seen ++ k ∷ []) (live xs)) f ∙ h
     ∙ append_assoc seen (l ∷ []) (live (merged_slots a b ends xs))
 
-links_behind : (a b : ℕ) (seen : List Linked) (ends : List ℕ) (xs : List (Option Linked)) → a ≢ b →
+links_after : (a b : ℕ) (seen : List Linked) (ends : List ℕ) (xs : List (Option Linked)) → a ≢ b →
     AreEnds b seen ends → AreOnce a b seen (live xs) → All (λ l. l.incident < l.other) (live xs) →
-    AreApart a b (live xs) → moved_behind a b seen (live xs) ≡ seen ++ live (merged_slots a b ends xs)
-links_behind a b seen ends [] d e o r n = sym (append-nil seen)
-links_behind a b seen ends (None ∷ xs) d e o r n = links_behind a b seen ends xs d e o r n
-links_behind a b seen ends (Some l ∷ xs) d e o r n =
+    AreApart a b (live xs) → moved_after a b seen (live xs) ≡ seen ++ live (merged_slots a b ends xs)
+links_after a b seen ends [] d e o r n = sym (append-nil seen)
+links_after a b seen ends (None ∷ xs) d e o r n = links_after a b seen ends xs d e o r n
+links_after a b seen ends (Some l ∷ xs) d e o r n =
     let m : Linked = link_after_merge a b l in
     let less : l.incident < l.other = All-head (λ k. k.incident < k.other) l (live xs) r in
     let rest : All (λ k. k.incident < k.other) (live xs) = All-tail (λ k. k.incident < k.other) l (live xs) r in
@@ -218,7 +218,7 @@ links_behind a b seen ends (Some l ∷ xs) d e o r n =
     cond_both (touches_either b a l)
     (slot_after_merge a b ends (Some l) ∷ merged_slots a b (ends_with a b ends (Some l)) xs)
     (Some l ∷ merged_slots a b ends xs)
-    (λ (ys : List (Option Linked)). moved_behind a b (with_link seen m) (live xs) ≡ seen ++ live ys)
+    (λ (ys : List (Option Linked)). moved_after a b (with_link seen m) (live xs) ≡ seen ++ live ys)
     (λ t.
     let is : (m ≡ new_link b (far_end a b l)) × (far_end a b l ≢ b) = link-moved a b l less one t in
     let two : (m.incident == m.other) ≡ false =
@@ -227,19 +227,19 @@ links_behind a b seen ends (Some l ∷ xs) d e o r n =
     near_step ((m.incident == m.other) || has_link m seen) (list_any (nat_eq (far_end a b l)) ends) a b
     (far_end a b l) m seen ends xs
     (ap (λ u. u || has_link m seen) two ∙ ap (λ k. has_link k seen) is.0 ∙ e (far_end a b l))
-    (λ _. links_behind a b seen ends xs d e (once_less a b l seen (live xs) o) rest ones)
-    (λ _. links_behind a b (seen ++ m ∷ []) (ends ++ far_end a b l ∷ []) xs d
+    (λ _. links_after a b seen ends xs d e (once_less a b l seen (live xs) o) rest ones)
+    (λ _. links_after a b (seen ++ m ∷ []) (ends ++ far_end a b l ∷ []) xs d
     (ends_more b (far_end a b l) m seen ends e is.0)
     (once_moved a b l m seen (live xs) (ap (touches b) is.0 ∙ touches_it b (far_end a b l)) o) rest ones))
     (λ t.
     let parts : (touches b l ≡ false) × (touches a l ≡ false) = or_parts _ _ t in
-    let same : m ≡ l = link-kept a b l parts.1 less in
+    let same : m ≡ l = link-preserved a b l parts.1 less in
     far_step ((m.incident == m.other) || has_link m seen) a b l m seen ends xs
     (ap (λ (k : Linked). (k.incident == k.other) || has_link k seen) same
     ∙ or_from _ _ (ne_eqb _ _ (λ s. omega (arith, s, less))) (not_there a b l seen (live xs) o t))
     same
-    (links_behind a b (seen ++ l ∷ []) ends xs d (ends_same b l seen ends e parts.0)
-    (once_kept a b l seen (live xs) o) rest ones))
+    (links_after a b (seen ++ l ∷ []) ends xs d (ends_same b l seen ends e parts.0)
+    (once_preserved a b l seen (live xs) o) rest ones))
 
 both_not : (t u : Bool) → (t ≡ true → u ≡ true → true ≡ false) → (t && u) ≡ false
 both_not true true h = h refl refl
@@ -262,10 +262,10 @@ pub links-merged : {B : Type 0} (a b : ℕ) (slots : List (Option Linked)) (list
     IsLinkTable slots lists → has_link (new_link a b) (live slots) ≡ false →
     live (merged_slots a b [] slots) ≡ links_after_merge a b (live slots)
 links-merged a b slots lists d h n =
-    sym (links_behind a b [] [] slots d (λ c. refl)
+    sym (links_after a b [] [] slots d (λ c. refl)
     (λ m t. let z : count_by (λ k. same_link k m) [] ≡ 0 = refl in omega (arith, z, h.once m)) h.ordered
     (apart a b (live slots) d n h.ordered))
-    ∙ moved_behind-none a b (live slots)
+    ∙ moved_after-none a b (live slots)
 
 -- 3. the places of their links
 
@@ -302,18 +302,18 @@ shift i x xs (k ∷ ks) h =
     ap (λ n. cond (is_some (standing (x ∷ xs) n)) (k ∷ rest) rest) e
     ∙ ap (λ js. cond (is_some (standing xs (k - suc i))) (k ∷ js) js) (shift i x xs ks h.1)
 
-kept_here : (u : Bool) (i : ℕ) (m : Linked) (q : Linked → Bool) (ys : List (Option Linked)) (ks : List ℕ) →
+preserved_here : (u : Bool) (i : ℕ) (m : Linked) (q : Linked → Bool) (ys : List (Option Linked)) (ks : List ℕ) →
     q m ≡ true → AllByRecursion (λ k. suc i ≤ k) ks →
     places (passes q) (suc i) ys ≡ filter (λ k. is_some (standing ys (k - suc i))) ks →
     places (passes q) i (cond u None (Some m) ∷ ys)
     ≡ filter (λ k. is_some (standing (cond u None (Some m) ∷ ys) (k - i))) (i ∷ ks)
-kept_here true i m q ys ks h f e =
+preserved_here true i m q ys ks h f e =
     let z : i - i ≡ 0 = omega arith in
     e ∙ sym (shift i None ys ks f)
     ∙ ap (λ n. cond (is_some (standing (None ∷ ys) n))
     (i ∷ filter (λ k. is_some (standing (None ∷ ys) (k - i))) ks)
     (filter (λ k. is_some (standing (None ∷ ys) (k - i))) ks)) (sym z)
-kept_here false i m q ys ks h f e =
+preserved_here false i m q ys ks h f e =
     let z : i - i ≡ 0 = omega arith in
     ap (λ t. cond t (i ∷ places (passes q) (suc i) ys) (places (passes q) (suc i) ys)) h
     ∙ ap (λ js. i ∷ js) (e ∙ sym (shift i (Some m) ys ks f))
@@ -337,7 +337,7 @@ merged_here : (t : Bool) (a b i : ℕ) (ends : List ℕ) (l : Linked) (xs : List
     (Some l ∷ merged_slots a b ends xs)) (k - i)))
     (cond t (i ∷ places_of a b (suc i) xs) (places_of a b (suc i) xs))
 merged_here true a b i ends l xs e h ih =
-    kept_here (list_any (nat_eq (far_end a b l)) ends) i (link_after_merge a b l) (touches b)
+    preserved_here (list_any (nat_eq (far_end a b l)) ends) i (link_after_merge a b l) (touches b)
     (merged_slots a b (ends_with a b ends (Some l)) xs) (places_of a b (suc i) xs) (h refl)
     (from (passes (touches_either b a)) (suc i) xs) (ih (ends_with a b ends (Some l)))
 merged_here false a b i ends l xs e h ih =

@@ -12,7 +12,7 @@ use Rattle.desk_incidents.specs.EndSets.{joins}
 use Rattle.desk_incidents.specs.Links.{same_link, has_link, without_link, link_after_merge, joins_two, first_links}
 use Rattle.desk_incidents.specs.Links.{links_after_merge}
 use Rattle.desk_incidents.specs.LinkTable.{touches}
-use Rattle.desk_incidents.proofs.FirstLinks.{count_kept}
+use Rattle.desk_incidents.proofs.FirstLinks.{count_preserved}
 use Rattle.desk_incidents.proofs.LinkEnds.{touches-new_link}
 use Rattle.desk_incidents.proofs.LinkTables.{same_link-true}
 
@@ -228,9 +228,9 @@ same_number n a b x true e d f =
 same_number n a b x false e d f = refl
 
 -- one that is not that of the merged incident
-kept_number : (n a b x : ℕ) (t : Bool) → (x == a) ≡ t → n ≢ a → (x == n) ≡ true → (cond t b x == n) ≡ true
-kept_number n a b x true e d h = absurd (d (sym (eqb-true x n h) ∙ eqb-true x a e))
-kept_number n a b x false e d h = h
+preserved_number : (n a b x : ℕ) (t : Bool) → (x == a) ≡ t → n ≢ a → (x == n) ≡ true → (cond t b x == n) ≡ true
+preserved_number n a b x true e d h = absurd (d (sym (eqb-true x n h) ∙ eqb-true x a e))
+preserved_number n a b x false e d h = h
 
 -- that of the merged incident
 gone_number : (a b x : ℕ) (t : Bool) → (x == a) ≡ t → a ≢ b → (cond t b x == a) ≡ false
@@ -250,21 +250,21 @@ same_link_of n m a b l c d e f =
 and_both : (t u : Bool) → t ≡ true → u ≡ true → (t && u) ≡ true
 and_both t u h g = ap₂ (λ x y. x && y) h g
 
-kept_link_of : (n m a b : ℕ) (l : Linked) → n ≢ a → m ≢ a → joins n m l ≡ true →
+preserved_link_of : (n m a b : ℕ) (l : Linked) → n ≢ a → m ≢ a → joins n m l ≡ true →
     joins n m (link_after_merge a b l) ≡ true
-kept_link_of n m a b l d e h = joins_moved n m a b l ∙ by (or_cases _ _ h)
+preserved_link_of n m a b l d e h = joins_moved n m a b l ∙ by (or_cases _ _ h)
   where
     by : (((l.incident == n) && (l.other == m)) ≡ true) ⊎ (((l.other == n) && (l.incident == m)) ≡ true) →
         (((number_after_merge a b l.incident == n) && (number_after_merge a b l.other == m))
         || ((number_after_merge a b l.other == n) && (number_after_merge a b l.incident == m))) ≡ true
     by (inl g) =
         let x = and_parts _ _ g in
-        or_left _ _ (and_both _ _ (kept_number n a b l.incident (l.incident == a) refl d x.0)
-        (kept_number m a b l.other (l.other == a) refl e x.1))
+        or_left _ _ (and_both _ _ (preserved_number n a b l.incident (l.incident == a) refl d x.0)
+        (preserved_number m a b l.other (l.other == a) refl e x.1))
     by (inr g) =
         let x = and_parts _ _ g in
-        or_right _ _ (and_both _ _ (kept_number n a b l.other (l.other == a) refl d x.0)
-        (kept_number m a b l.incident (l.incident == a) refl e x.1))
+        or_right _ _ (and_both _ _ (preserved_number n a b l.other (l.other == a) refl d x.0)
+        (preserved_number m a b l.incident (l.incident == a) refl e x.1))
 
 gone_link_of : (m a b : ℕ) (l : Linked) → a ≢ b → joins a m (link_after_merge a b l) ≡ false
 gone_link_of m a b l d =
@@ -286,14 +286,14 @@ or_more true u v w f g h = or_left v w (f refl)
 or_more false u v w f g h = or_right v w (g h)
 
 -- what was linked stays so, but for the merged incident
-pub merged-kept : (n m a b : ℕ) → n ≢ m → n ≢ a → m ≢ a → (ls : List Linked) → list_any (joins n m) ls ≡ true →
+pub merged-preserved : (n m a b : ℕ) → n ≢ m → n ≢ a → m ≢ a → (ls : List Linked) → list_any (joins n m) ls ≡ true →
     list_any (joins n m) (links_after_merge a b ls) ≡ true
-merged-kept n m a b d c e ls h = any_merged n m a b d ls ∙ by ls h
+merged-preserved n m a b d c e ls h = any_merged n m a b d ls ∙ by ls h
   where
     by : (ls : List Linked) → list_any (joins n m) ls ≡ true →
         list_any (joins n m) (map (link_after_merge a b) ls) ≡ true
     by [] h = h
-    by (l ∷ ls) h = or_more _ _ _ _ (kept_link_of n m a b l c e) (by ls) h
+    by (l ∷ ls) h = or_more _ _ _ _ (preserved_link_of n m a b l c e) (by ls) h
 
 -- nothing is linked with the merged incident
 pub merged-gone : (m a b : ℕ) → a ≢ b → a ≢ m → (ls : List Linked) →
@@ -320,7 +320,7 @@ first_fewer p (l ∷ ls) =
       arith,
       count_more p l (without_link l (first_links ls)),
       count_more p l ls,
-      count_kept p (λ m. not (same_link m l)) (first_links ls),
+      count_preserved p (λ m. not (same_link m l)) (first_links ls),
       first_fewer p ls,
     )
 
@@ -384,6 +384,6 @@ merged-fewer a b ls =
     omega (
       arith,
       first_fewer (touches b) (filter joins_two (map (link_after_merge a b) ls)),
-      count_kept (touches b) joins_two (map (link_after_merge a b) ls),
+      count_preserved (touches b) joins_two (map (link_after_merge a b) ls),
       moved_fewer a b ls,
     )

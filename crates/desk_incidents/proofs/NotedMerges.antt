@@ -15,7 +15,7 @@ use Rattle.desk_incidents.specs.EndSets.{has_end, has_either, joins, AreNoted, k
 use Rattle.desk_incidents.specs.Links.{links_after_merge, without_link}
 use Rattle.desk_incidents.specs.LinkTable.{touches, IsLinkTable}
 use Rattle.desk_incidents.proofs.LinkTables.{any_plain, any-places}
-use Rattle.desk_incidents.proofs.NotedLinks.{any-swapped, joins-swapped, joins-touches, merged-others, merged-kept}
+use Rattle.desk_incidents.proofs.NotedLinks.{any-swapped, joins-swapped, joins-touches, merged-others, merged-preserved}
 use Rattle.desk_incidents.proofs.NotedLinks.{merged-gone, or_more, or_swapped, and_swapped, any-last, any-without}
 use Rattle.desk_incidents.proofs.EndChanges.{put_ways}
 use Rattle.desk_index.proofs.Slots.{live-push}
@@ -46,9 +46,9 @@ gone_end true false true h w = absurd (true≢false (sym (w refl)))
 gone_end true false false h w = refl
 gone_end false t u h w = absurd (true≢false (sym h))
 
-kept_end : (s t u : Bool) → s ≡ false → cond (s && t) false u ≡ u
-kept_end true t u h = absurd (true≢false h)
-kept_end false t u h = refl
+preserved_end : (s t u : Bool) → s ≡ false → cond (s && t) false u ≡ u
+preserved_end true t u h = absurd (true≢false h)
+preserved_end false t u h = refl
 
 more_or : (x y : Bool) → (y ≡ true → x ≡ true) → (x || y) ≡ x
 more_or true y w = refl
@@ -106,7 +106,7 @@ module _ {B S : Type 0} (a b : ℕ) (slots after : List (Option Linked)) (lists 
   stays : (n m : ℕ) → a ≢ n → b ≢ n → a ≢ m → has_end n m new ≡ has_end n m old
   stays n m d e f =
       of_neither n m d e ∙ forgets n m
-      ∙ kept_end (a == m) (list_any (λ k. passes (touches n) (standing slots k)) (at_in a lists)) (has_end n m old)
+      ∙ preserved_end (a == m) (list_any (λ k. passes (touches n) (standing slots k)) (at_in a lists)) (has_end n m old)
       (ne_eqb a m f)
 
   case_merged : (m : ℕ) → a ≢ m → has_either a m new ≡ list_any (joins a m) (live after)
@@ -120,7 +120,7 @@ module _ {B S : Type 0} (a b : ℕ) (slots after : List (Option Linked)) (lists 
       ∙ far_links m) (stays m b d e apart)
       ∙ more_or (list_any (joins b m) (live after)) (has_end m b old)
       (λ h. ap (list_any (joins b m)) links
-      ∙ merged-kept b m a b e (λ s. apart (sym s)) (λ s. d (sym s)) (live slots)
+      ∙ merged-preserved b m a b e (λ s. apart (sym s)) (λ s. d (sym s)) (live slots)
       (sym (noted b m e) ∙ or_right _ _ h))
 
   case_both : (n m : ℕ) → n ≢ m → a ≢ n → b ≢ n → a ≢ m → b ≢ m →
@@ -226,12 +226,12 @@ pub both_true : (t u : Bool) → t ≡ true → u ≡ true → (t && u) ≡ true
 both_true t u h g = ap₂ (λ x y. x && y) h g
 
 -- numbers that keep both
-pub both-kept : {U V : Type 0} (lists left : List (ℕ × U)) (sets new : List (ℕ × V)) →
+pub both-preserved : {U V : Type 0} (lists left : List (ℕ × U)) (sets new : List (ℕ × V)) →
     ((n : ℕ) → has_list n lists ≡ true → has_list n left ≡ true) →
     ((n : ℕ) → has_list n sets ≡ true → has_list n new ≡ true) →
     (listed : List ℕ) → keys_of_both lists sets ≡ listed → (n : ℕ) → is_listed n listed ≡ true →
     is_listed n (keys_of_both left new) ≡ true
-both-kept lists left sets new f g listed v n h =
+both-preserved lists left sets new f g listed v n h =
     let parts : (has_list n lists ≡ true) × (has_list n sets ≡ true) =
     and_parts _ _ (sym (both-listed n lists sets) ∙ ap (is_listed n) v ∙ h) in
     both-listed n left new ∙ both_true _ _ (f n parts.0) (g n parts.1)

@@ -41,7 +41,7 @@ pub record IsGiven {B : Type 0} (from to : ℕ) (entries : List (List ℕ × ℕ
   pub more : length (at_in to new) ≡ length (at_in to lists) + 1
   -- no room is lost, and no list
   pub room : room_in to lists ≤ room_in to new
-  pub kept : (n : ℕ) → has_list n new ≡ has_list n lists
+  pub preserved : (n : ℕ) → has_list n new ≡ has_list n lists
 
 -- Each incident's number has a list.
 abbrev pub AreListed : List ℕ → List Incident → Type 0

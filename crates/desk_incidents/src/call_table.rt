@@ -136,7 +136,7 @@ fn move_calls(table: &mut IndexMap<CallId, u64, HashSeed>, index: &mut Places, f
         ≤ room_in to index.old.lists.entries }
     ensures calls { map pair_of table.new.entries ≡ map (call_after_merge from to) (map pair_of table.old.entries) }
     ensures table { IsCallTable table.new.entries index.new.lists.entries }
-    ensures kept { (n : ℕ) → has_list n index.new.lists.entries ≡ has_list n index.old.lists.entries }
+    ensures preserved { (n : ℕ) → has_list n index.new.lists.entries ≡ has_list n index.old.lists.entries }
 {
     let count = index.at(from).len();
     for _done in 0..count {
@@ -220,7 +220,7 @@ impl Calls {
     pub(crate) fn reserve(&mut self, number: u64) -> Result<(), AllocError>
         ensures pairs { self.new.pairs ≡ self.old.pairs }
         ensures listed { OnOk result (is_listed number self.new.listed ≡ true) }
-        ensures kept { (n : ℕ) → is_listed n self.old.listed ≡ true → is_listed n self.new.listed ≡ true }
+        ensures preserved { (n : ℕ) → is_listed n self.old.listed ≡ true → is_listed n self.new.listed ≡ true }
     {
         self.index.reserve(number)
     }
@@ -230,7 +230,7 @@ impl Calls {
     pub(crate) fn prepare(&mut self, number: u64) -> Result<Vec<usize>, AllocError>
         ensures pairs { self.new.pairs ≡ self.old.pairs }
         ensures listed { OnOk result (is_listed number self.new.listed ≡ true) }
-        ensures kept { (n : ℕ) → is_listed n self.old.listed ≡ true → is_listed n self.new.listed ≡ true }
+        ensures preserved { (n : ℕ) → is_listed n self.old.listed ≡ true → is_listed n self.new.listed ≡ true }
         ensures room { IfOk result (λ room. call_count number self.old.pairs < vec_capacity room) }
     {
         self.index.reserve(number)?;
@@ -251,7 +251,7 @@ impl Calls {
         ensures ok { OnOk result (self.new.pairs
             ≡ self.old.pairs ++ record { incident = number; call = call } ∷ []) }
         ensures err { OnErr result (self.new.pairs ≡ self.old.pairs) }
-        ensures kept { (n : ℕ) → is_listed n self.old.listed ≡ true → is_listed n self.new.listed ≡ true }
+        ensures preserved { (n : ℕ) → is_listed n self.old.listed ≡ true → is_listed n self.new.listed ≡ true }
     {
         self.table.reserve(1)?;
         self.index.reserve(number)?;
@@ -264,7 +264,7 @@ impl Calls {
     /// Takes the last pair out. It takes no memory.
     pub(crate) fn pop(&mut self)
         ensures pairs { self.new.pairs ≡ take (length self.old.pairs - 1) self.old.pairs }
-        ensures kept { (n : ℕ) → is_listed n self.new.listed ≡ is_listed n self.old.listed }
+        ensures preserved { (n : ℕ) → is_listed n self.new.listed ≡ is_listed n self.old.listed }
     {
         if let Some((_call, number)) = self.table.pop() {
             self.index.pop(number);
@@ -276,7 +276,7 @@ impl Calls {
         requires listed { is_listed number self.old.listed ≡ true }
         requires room { call_count number self.old.pairs < vec_capacity room }
         ensures pairs { self.new.pairs ≡ update_first (is_call call.now) (call_of_incident number) self.old.pairs }
-        ensures kept { (n : ℕ) → is_listed n self.new.listed ≡ is_listed n self.old.listed }
+        ensures preserved { (n : ℕ) → is_listed n self.new.listed ≡ is_listed n self.old.listed }
     {
         self.index.install(number, room);
         if let Some(place) = place_of(&self.table, call) {
@@ -292,7 +292,7 @@ impl Calls {
         requires listed { is_listed to self.old.listed ≡ true }
         requires room { call_count to self.old.pairs + call_count from self.old.pairs ≤ vec_capacity room }
         ensures pairs { self.new.pairs ≡ map (call_after_merge from to) self.old.pairs }
-        ensures kept { (n : ℕ) → is_listed n self.new.listed ≡ is_listed n self.old.listed }
+        ensures preserved { (n : ℕ) → is_listed n self.new.listed ≡ is_listed n self.old.listed }
     {
         self.index.install(to, room);
         move_calls(&mut self.table, &mut self.index, from, to);

@@ -80,7 +80,8 @@ impl EndSets {
     /// Gives a number a set, where it has none. All sets keep their ends, whatever the result.
     pub(crate) fn open(&mut self, number: u64) -> Result<(), AllocError>
         ensures ends { (n m : ℕ) → has_end n m self.new.sets.entries ≡ has_end n m self.old.sets.entries }
-        ensures kept { (n : ℕ) → has_list n self.old.sets.entries ≡ true → has_list n self.new.sets.entries ≡ true }
+        ensures preserved { (n : ℕ) → has_list n self.old.sets.entries ≡ true →
+            has_list n self.new.sets.entries ≡ true }
         ensures there { OnOk result (has_list number self.new.sets.entries ≡ true) }
     {
         match self.sets.get_index_of(&number) {
@@ -96,7 +97,7 @@ impl EndSets {
     pub(crate) fn grow(&mut self, number: u64) -> Result<(), AllocError>
         requires { has_list number self.old.sets.entries ≡ true }
         ensures ends { (n m : ℕ) → has_end n m self.new.sets.entries ≡ has_end n m self.old.sets.entries }
-        ensures kept { (n : ℕ) → has_list n self.new.sets.entries ≡ has_list n self.old.sets.entries }
+        ensures preserved { (n : ℕ) → has_list n self.new.sets.entries ≡ has_list n self.old.sets.entries }
         ensures grown { OnOk result (0 < room_of number self.new.sets.entries) }
     {
         match self.sets.get_index_of(&number) {
@@ -110,7 +111,7 @@ impl EndSets {
         requires { 0 < room_of number self.old.sets.entries }
         ensures ends { (n m : ℕ) → has_end n m self.new.sets.entries
             ≡ (if (number == n) && (end == m) then true else has_end n m self.old.sets.entries) }
-        ensures kept { (n : ℕ) → has_list n self.new.sets.entries ≡ has_list n self.old.sets.entries }
+        ensures preserved { (n : ℕ) → has_list n self.new.sets.entries ≡ has_list n self.old.sets.entries }
     {
         if let Some(index) = self.sets.get_index_of(&number) {
             put_end(&mut self.sets[index], end);
@@ -121,7 +122,7 @@ impl EndSets {
     pub(crate) fn forget(&mut self, number: u64, end: u64)
         ensures ends { (n m : ℕ) → has_end n m self.new.sets.entries
             ≡ (if (number == n) && (end == m) then false else has_end n m self.old.sets.entries) }
-        ensures kept { (n : ℕ) → has_list n self.new.sets.entries ≡ has_list n self.old.sets.entries }
+        ensures preserved { (n : ℕ) → has_list n self.new.sets.entries ≡ has_list n self.old.sets.entries }
     {
         if let Some(index) = self.sets.get_index_of(&number) {
             take_end(&mut self.sets[index], end);
@@ -133,7 +134,7 @@ impl EndSets {
         requires { has_list number self.old.sets.entries ≡ true }
         ensures ends { (n m : ℕ) → has_end n m self.new.sets.entries
             ≡ (if number == n then list_any (nat_eq m) ends.keys else has_end n m self.old.sets.entries) }
-        ensures kept { (n : ℕ) → has_list n self.new.sets.entries ≡ has_list n self.old.sets.entries }
+        ensures preserved { (n : ℕ) → has_list n self.new.sets.entries ≡ has_list n self.old.sets.entries }
     {
         if let Some(index) = self.sets.get_index_of(&number) {
             self.sets[index] = ends;
@@ -144,7 +145,7 @@ impl EndSets {
     pub(crate) fn empty(&mut self, number: u64)
         ensures ends { (n m : ℕ) → has_end n m self.new.sets.entries
             ≡ (if number == n then false else has_end n m self.old.sets.entries) }
-        ensures kept { (n : ℕ) → has_list n self.new.sets.entries ≡ has_list n self.old.sets.entries }
+        ensures preserved { (n : ℕ) → has_list n self.new.sets.entries ≡ has_list n self.old.sets.entries }
     {
         if let Some(index) = self.sets.get_index_of(&number) {
             self.sets[index] = IndexSet::new(self.alloc);

@@ -136,7 +136,7 @@ fn vacate_slot(slots: &mut Vec<Option<Linked>>, index: &mut Places, slot: usize,
     requires there { standing slots.old.items slot ≡ Some link }
     ensures slots { slots.new.items ≡ set slots.old.items slot None }
     ensures table { IsLinkTable slots.new.items index.new.lists.entries }
-    ensures kept { (n : ℕ) → has_list n index.new.lists.entries ≡ has_list n index.old.lists.entries }
+    ensures preserved { (n : ℕ) → has_list n index.new.lists.entries ≡ has_list n index.old.lists.entries }
 {
     slots[slot] = None;
     index.remove(link.incident, slot);
@@ -196,7 +196,7 @@ fn merge_slot(
     ensures ends { ends.new.keys ≡ ends_with from to ends.old.keys (standing slots.old.items slot) }
     ensures room { spare ends.old ≤ spare ends.new + 1 }
     ensures placed { IsPlacedElsewhere from to slots.new.items index.new.lists.entries }
-    ensures kept { (n : ℕ) → has_list n index.new.lists.entries ≡ has_list n index.old.lists.entries }
+    ensures preserved { (n : ℕ) → has_list n index.new.lists.entries ≡ has_list n index.old.lists.entries }
 {
     let end = far_end(&link, from, to);
     if note_end(ends, end) {
@@ -222,7 +222,7 @@ fn remove_link(slots: &mut Vec<Option<Linked>>, index: &mut Places, link: Linked
     requires { IsLinkTable slots.old.items index.old.lists.entries }
     ensures table { IsLinkTable slots.new.items index.new.lists.entries }
     ensures links { live slots.new.items ≡ without_link link (live slots.old.items) }
-    ensures kept { (n : ℕ) → has_list n index.new.lists.entries ≡ has_list n index.old.lists.entries }
+    ensures preserved { (n : ℕ) → has_list n index.new.lists.entries ≡ has_list n index.old.lists.entries }
 {
     if let Some(slot) = slot_of(slots, index, link) {
         vacate_slot(slots, index, slot, link);
@@ -246,7 +246,7 @@ fn merge_place(
     ensures ends { ends.new.keys ≡ ends_with from to ends.old.keys (standing slots.old.items slot) }
     ensures room { spare ends.old ≤ spare ends.new + 1 }
     ensures placed { IsPlacedElsewhere from to slots.new.items index.new.lists.entries }
-    ensures kept { (n : ℕ) → has_list n index.new.lists.entries ≡ has_list n index.old.lists.entries }
+    ensures preserved { (n : ℕ) → has_list n index.new.lists.entries ≡ has_list n index.old.lists.entries }
 {
     if let Some(link) = link_in(slots, slot) {
         merge_slot(slots, index, ends, from, to, slot, link);
@@ -271,7 +271,7 @@ fn merge_slots(
     requires room { length among.now ≤ spare ends.old }
     ensures slots { slots.new.items ≡ slots_after_merge from to among.now [] slots.old.items }
     ensures placed { IsPlacedElsewhere from to slots.new.items index.new.lists.entries }
-    ensures kept { (n : ℕ) → has_list n index.new.lists.entries ≡ has_list n index.old.lists.entries }
+    ensures preserved { (n : ℕ) → has_list n index.new.lists.entries ≡ has_list n index.old.lists.entries }
 {
     for place in among {
         merge_place(slots, index, ends, from, to, *place);
@@ -302,7 +302,7 @@ fn merge_lists(
         ≤ room }
     ensures table { IsLinkTable slots.new.items index.new.lists.entries }
     ensures links { live slots.new.items ≡ links_after_merge from to (live slots.old.items) }
-    ensures kept { (n : ℕ) → has_list n index.new.lists.entries ≡ has_list n index.old.lists.entries }
+    ensures preserved { (n : ℕ) → has_list n index.new.lists.entries ≡ has_list n index.old.lists.entries }
 {
     let ListRoom {
         slots: places,
@@ -331,7 +331,7 @@ fn merge_links(
         ≤ room }
     ensures table { IsLinkTable slots.new.items index.new.lists.entries }
     ensures links { live slots.new.items ≡ links_after_merge from to (live slots.old.items) }
-    ensures kept { (n : ℕ) → has_list n index.new.lists.entries ≡ has_list n index.old.lists.entries }
+    ensures preserved { (n : ℕ) → has_list n index.new.lists.entries ≡ has_list n index.old.lists.entries }
 {
     remove_link(slots, index, new_link(from, to));
     merge_lists(slots, index, from, to, room);
@@ -367,7 +367,7 @@ fn note_all(ends: &mut IndexSet<u64>, slots: &[Option<Linked>], among: &[usize],
 fn forget_at(sets: &mut EndSets, link: Option<Linked>, number: u64)
     ensures ends { (n m : ℕ) → has_end n m sets.new.sets.entries
         ≡ (if (number == m) && passes (touches n) link then false else has_end n m sets.old.sets.entries) }
-    ensures kept { (n : ℕ) → has_list n sets.new.sets.entries ≡ has_list n sets.old.sets.entries }
+    ensures preserved { (n : ℕ) → has_list n sets.new.sets.entries ≡ has_list n sets.old.sets.entries }
 {
     if let Some(link) = link {
         sets.forget(link.incident, number);
@@ -380,7 +380,7 @@ fn forget_all(sets: &mut EndSets, slots: &[Option<Linked>], among: &[usize], num
     ensures ends { (n m : ℕ) → has_end n m sets.new.sets.entries
         ≡ (if (number == m) && list_any (λ k. passes (touches n) (standing slots.now k)) among.now then false
         else has_end n m sets.old.sets.entries) }
-    ensures kept { (n : ℕ) → has_list n sets.new.sets.entries ≡ has_list n sets.old.sets.entries }
+    ensures preserved { (n : ℕ) → has_list n sets.new.sets.entries ≡ has_list n sets.old.sets.entries }
 {
     for place in among {
         forget_at(sets, link_in(slots, *place), number);
@@ -391,7 +391,7 @@ fn forget_all(sets: &mut EndSets, slots: &[Option<Linked>], among: &[usize], num
 fn forget_link(sets: &mut EndSets, link: Linked)
     ensures ends { (n m : ℕ) → has_either n m sets.new.sets.entries
         ≡ (if joins n m link then false else has_either n m sets.old.sets.entries) }
-    ensures kept { (n : ℕ) → has_list n sets.new.sets.entries ≡ has_list n sets.old.sets.entries }
+    ensures preserved { (n : ℕ) → has_list n sets.new.sets.entries ≡ has_list n sets.old.sets.entries }
 {
     sets.forget(link.incident, link.other);
     sets.forget(link.other, link.incident);
@@ -468,7 +468,7 @@ impl Links {
     pub(crate) fn reserve(&mut self, number: u64) -> Result<(), AllocError>
         ensures pairs { self.new.pairs ≡ self.old.pairs }
         ensures listed { OnOk result (is_listed number self.new.listed ≡ true) }
-        ensures kept { (n : ℕ) → is_listed n self.old.listed ≡ true → is_listed n self.new.listed ≡ true }
+        ensures preserved { (n : ℕ) → is_listed n self.old.listed ≡ true → is_listed n self.new.listed ≡ true }
     {
         self.ends.open(number)?;
         self.index.reserve(number)
@@ -496,7 +496,7 @@ impl Links {
         requires ordered { link.incident < link.other }
         ensures ok { OnOk result (self.new.pairs ≡ self.old.pairs ++ link ∷ []) }
         ensures err { OnErr result (self.new.pairs ≡ self.old.pairs) }
-        ensures kept { (n : ℕ) → is_listed n self.old.listed ≡ true → is_listed n self.new.listed ≡ true }
+        ensures preserved { (n : ℕ) → is_listed n self.old.listed ≡ true → is_listed n self.new.listed ≡ true }
     {
         self.ends.open(link.incident)?;
         self.ends.grow(link.incident)?;
@@ -514,7 +514,7 @@ impl Links {
     /// Takes a link out, where it is there. It takes no memory.
     pub(crate) fn remove(&mut self, link: Linked)
         ensures pairs { self.new.pairs ≡ without_link link self.old.pairs }
-        ensures kept { (n : ℕ) → is_listed n self.new.listed ≡ is_listed n self.old.listed }
+        ensures preserved { (n : ℕ) → is_listed n self.new.listed ≡ is_listed n self.old.listed }
     {
         if self.has(link) {
             forget_link(&mut self.ends, link);
@@ -529,7 +529,7 @@ impl Links {
         requires room { count_by (touches to) self.old.pairs + count_by (touches from) self.old.pairs
             ≤ room }
         ensures pairs { self.new.pairs ≡ links_after_merge from to self.old.pairs }
-        ensures kept { (n : ℕ) → is_listed n self.new.listed ≡ is_listed n self.old.listed }
+        ensures preserved { (n : ℕ) → is_listed n self.new.listed ≡ is_listed n self.old.listed }
     {
         let LinksRoom { list, mut ends } = room;
         ends.clear();

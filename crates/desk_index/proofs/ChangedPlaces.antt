@@ -12,11 +12,11 @@ use Rattle.desk_index.proofs.Slots.{from, first_place}
 
 -- 1. one place of the list
 
-kept : (i : ℕ) (ks : List ℕ) → AllByRecursion (λ k. suc i ≤ k) ks → remove_key (nat_eq i) ks ≡ ks
-kept i [] h = refl
-kept i (k ∷ ks) h =
+preserved : (i : ℕ) (ks : List ℕ) → AllByRecursion (λ k. suc i ≤ k) ks → remove_key (nat_eq i) ks ≡ ks
+preserved i [] h = refl
+preserved i (k ∷ ks) h =
     let apart : nat_eq i k ≡ false = ne_eqb i k (λ e. omega (arith, h.0, e)) in
-    rw apart (ap (λ l. k ∷ l) (kept i ks h.1))
+    rw apart (ap (λ l. k ∷ l) (preserved i ks h.1))
 
 -- the place itself, before others
 here : (t u : Bool) (i : ℕ) (ks : List ℕ) → nat_eq i i ≡ true → insert_place i ks ≡ i ∷ ks →

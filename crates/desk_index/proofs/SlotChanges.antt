@@ -16,11 +16,11 @@ use Rattle.desk_index.proofs.Slots.{from, first_place}
 other_number : (a b : ℕ) → a < b → nat_eq b a ≡ false
 other_number a b h = ne_eqb b a (λ e. omega (arith, h, e))
 
-kept : (i : ℕ) (ks : List ℕ) → AllByRecursion (λ k. suc i ≤ k) ks → remove_key (nat_eq i) ks ≡ ks
-kept i [] h = refl
-kept i (k ∷ ks) h =
+preserved : (i : ℕ) (ks : List ℕ) → AllByRecursion (λ k. suc i ≤ k) ks → remove_key (nat_eq i) ks ≡ ks
+preserved i [] h = refl
+preserved i (k ∷ ks) h =
     let apart : nat_eq i k ≡ false = ne_eqb i k (λ e. omega (arith, h.0, e)) in
-    rw apart (ap (λ l. k ∷ l) (kept i ks h.1))
+    rw apart (ap (λ l. k ∷ l) (preserved i ks h.1))
 
 out_here : (t : Bool) (i : ℕ) (ks : List ℕ) → nat_eq i i ≡ true → remove_key (nat_eq i) ks ≡ ks →
     ks ≡ remove_key (nat_eq i) (cond t (i ∷ ks) ks)
@@ -40,7 +40,7 @@ places-removed q i (suc k) [] = refl
 places-removed q i zero (x ∷ xs) =
     let e : i + 0 ≡ i = omega arith in
     rw e (out_here (passes q x) i (places (passes q) (suc i) xs) (eq-eqb i i refl)
-    (kept i (places (passes q) (suc i) xs) (from (passes q) (suc i) xs)))
+    (preserved i (places (passes q) (suc i) xs) (from (passes q) (suc i) xs)))
 places-removed q i (suc k) (x ∷ xs) =
     let e : suc i + k ≡ i + suc k = omega arith in
     out_past (passes q x) i (i + suc k) (places (passes q) (suc i) xs) (places (passes q) (suc i) (set xs k None))

@@ -162,7 +162,8 @@ impl Places {
     pub fn reserve(&mut self, number: u64) -> Result<(), AllocError>
         ensures lists { (n : ℕ) → at_in n self.new.lists.entries ≡ at_in n self.old.lists.entries }
         ensures room { (n : ℕ) → room_in n self.old.lists.entries ≤ room_in n self.new.lists.entries }
-        ensures kept { (n : ℕ) → has_list n self.old.lists.entries ≡ true → has_list n self.new.lists.entries ≡ true }
+        ensures preserved { (n : ℕ) → has_list n self.old.lists.entries ≡ true →
+            has_list n self.new.lists.entries ≡ true }
         ensures there { OnOk result (has_list number self.new.lists.entries ≡ true) }
         ensures grown { OnOk result
             (length (at_in number self.new.lists.entries) < room_in number self.new.lists.entries) }
@@ -261,7 +262,7 @@ impl Places {
         ensures room { vec_capacity room ≤ room_in number self.new.lists.entries }
         ensures fits { (n : ℕ) → length (at_in n self.old.lists.entries) ≤ room_in n self.old.lists.entries →
             length (at_in n self.new.lists.entries) ≤ room_in n self.new.lists.entries }
-        ensures kept { (n : ℕ) → has_list n self.new.lists.entries ≡ has_list n self.old.lists.entries }
+        ensures preserved { (n : ℕ) → has_list n self.new.lists.entries ≡ has_list n self.old.lists.entries }
     {
         if let Some(index) = self.lists.get_index_of(&number) {
             install_list(&mut self.lists[index], room);

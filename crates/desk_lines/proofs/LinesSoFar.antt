@@ -25,11 +25,11 @@ lines_of-last b [] h = rw h.0 refl
 lines_of-last b (c ∷ line) h = rw h.0 (ap (onto_first b) (lines_of-last c line h.1))
 
 -- whether nothing is kept
-pub none_kept : (n : ℕ) (is_none : Bool) → is_none ≡ eqb n 0 → is_none ≡ true → n ≡ 0
-none_kept n is_none e printed = eqb-true n 0 (sym e ∙ printed)
+pub none_preserved : (n : ℕ) (is_none : Bool) → is_none ≡ eqb n 0 → is_none ≡ true → n ≡ 0
+none_preserved n is_none e printed = eqb-true n 0 (sym e ∙ printed)
 
-pub some_kept : (n : ℕ) (is_none : Bool) → is_none ≡ eqb n 0 → is_none ≡ false → 0 < n
-some_kept n is_none e printed = omega (arith, eqb-false n 0 (sym e ∙ printed))
+pub some_preserved : (n : ℕ) (is_none : Bool) → is_none ≡ eqb n 0 → is_none ≡ false → 0 < n
+some_preserved n is_none e printed = omega (arith, eqb-false n 0 (sym e ∙ printed))
 
 -- a prefix of a list with more after it
 take-more : (most : ℕ) (line run : List ℕ) → length line ≤ most →
@@ -40,81 +40,83 @@ take-more most line run within =
 
 pub nothing_came : HasCome [] false []
 nothing_came = record {
-  kept_is = sym (take-nil LINE_BYTES);
+  preserved_is = sym (take-nil LINE_BYTES);
   long_is = sym (le-ltb LINE_BYTES 0 (omega arith));
   no_end = tt;
 }
 
-kept_length : (kept line : List ℕ) (is_long : Bool) → HasCome kept is_long line →
-    length kept ≡ min LINE_BYTES (length line)
-kept_length kept line is_long h = ap length h.kept_is ∙ length-take LINE_BYTES line
+preserved_length : (preserved line : List ℕ) (is_long : Bool) → HasCome preserved is_long line →
+    length preserved ≡ min LINE_BYTES (length line)
+preserved_length preserved line is_long h = ap length h.preserved_is ∙ length-take LINE_BYTES line
 
 -- the line is as it was kept
-pub is_whole : (kept : List ℕ) (is_long : Bool) (line : List ℕ) → is_long ≡ false → HasCome kept is_long line →
-    kept ≡ line
-is_whole kept is_long line e h =
-    h.kept_is ∙ take_all LINE_BYTES line (ltb-false LINE_BYTES (length line) (sym h.long_is ∙ e))
+pub is_whole : (preserved : List ℕ) (is_long : Bool) (line : List ℕ) → is_long ≡ false →
+    HasCome preserved is_long line →
+    preserved ≡ line
+is_whole preserved is_long line e h =
+    h.preserved_is ∙ take_all LINE_BYTES line (ltb-false LINE_BYTES (length line) (sym h.long_is ∙ e))
 
 -- a prefix of a run is kept, as long as there is room for it
-kept_run : (kept : List ℕ) (is_long : Bool) (line run : List ℕ) (n : ℕ) → HasCome kept is_long line →
-    n ≡ min (length run) (LINE_BYTES - length kept) → kept ++ take n run ≡ take LINE_BYTES (line ++ run)
-kept_run kept true line run n h e =
+preserved_run : (preserved : List ℕ) (is_long : Bool) (line run : List ℕ) (n : ℕ) → HasCome preserved is_long line →
+    n ≡ min (length run) (LINE_BYTES - length preserved) → preserved ++ take n run ≡ take LINE_BYTES (line ++ run)
+preserved_run preserved true line run n h e =
     let over : LINE_BYTES < length line = ltb-true LINE_BYTES (length line) (sym h.long_is) in
-    let none : n ≡ 0 = omega (arith, e, over, kept_length kept line true h) in
-    rw none (append-nil kept ∙ h.kept_is ∙ sym (take-append-le LINE_BYTES line run (omega (arith, over))))
-kept_run kept false line run n h e =
+    let none : n ≡ 0 = omega (arith, e, over, preserved_length preserved line true h) in
+    rw none (append-nil preserved ∙ h.preserved_is ∙ sym (take-append-le LINE_BYTES line run (omega (arith, over))))
+preserved_run preserved false line run n h e =
     let fits : length line ≤ LINE_BYTES = ltb-false LINE_BYTES (length line) (sym h.long_is) in
-    let whole : kept ≡ line = is_whole kept false line refl h in
+    let whole : preserved ≡ line = is_whole preserved false line refl h in
     let room : n ≡ min (LINE_BYTES - length line) (length run) = omega (arith, e, ap length whole) in
     ap (λ l. l ++ take n run) whole ∙ ap (λ k. line ++ take k run) room
     ∙ ap (λ l. line ++ l) (take_min (LINE_BYTES - length line) run) ∙ sym (take-more LINE_BYTES line run fits)
 
-long_whole : (kept : List ℕ) (is_long : Bool) (line run : List ℕ) → HasCome kept is_long line →
-    length run ≤ LINE_BYTES - length kept → is_long ≡ nat_lt LINE_BYTES (length (line ++ run))
-long_whole kept true line run h all =
+long_whole : (preserved : List ℕ) (is_long : Bool) (line run : List ℕ) → HasCome preserved is_long line →
+    length run ≤ LINE_BYTES - length preserved → is_long ≡ nat_lt LINE_BYTES (length (line ++ run))
+long_whole preserved true line run h all =
     let over : LINE_BYTES < length line = ltb-true LINE_BYTES (length line) (sym h.long_is) in
     sym (lt-ltb LINE_BYTES (length (line ++ run)) (omega (arith, over, length-append line run)))
-long_whole kept false line run h all =
+long_whole preserved false line run h all =
     let under : length line ≤ LINE_BYTES = ltb-false LINE_BYTES (length line) (sym h.long_is) in
     sym (le-ltb LINE_BYTES (length (line ++ run))
-    (omega (arith, under, all, length-append line run, kept_length kept line false h)))
+    (omega (arith, under, all, length-append line run, preserved_length preserved line false h)))
 
 -- the whole run is kept
-pub came_whole : (kept : List ℕ) (is_long : Bool) (line run : List ℕ) (n : ℕ) → HasCome kept is_long line →
-    IsOneLine run → n ≡ min (length run) (LINE_BYTES - length kept) → length run ≤ n →
-    HasCome (kept ++ take n run) is_long (line ++ run)
-came_whole kept is_long line run n h one e all = record {
-  kept_is = kept_run kept is_long line run n h e;
-  long_is = long_whole kept is_long line run h (omega (arith, e, all));
+pub came_whole : (preserved : List ℕ) (is_long : Bool) (line run : List ℕ) (n : ℕ) → HasCome preserved is_long line →
+    IsOneLine run → n ≡ min (length run) (LINE_BYTES - length preserved) → length run ≤ n →
+    HasCome (preserved ++ take n run) is_long (line ++ run)
+came_whole preserved is_long line run n h one e all = record {
+  preserved_is = preserved_run preserved is_long line run n h e;
+  long_is = long_whole preserved is_long line run h (omega (arith, e, all));
   no_end = IsOneLine-append line run h.no_end one;
 }
 
 -- a part of it is kept
-pub came_part : (kept : List ℕ) (is_long : Bool) (line run : List ℕ) (n : ℕ) → HasCome kept is_long line →
-    IsOneLine run → n ≡ min (length run) (LINE_BYTES - length kept) → n < length run →
-    HasCome (kept ++ take n run) true (line ++ run)
-came_part kept is_long line run n h one e part = record {
-  kept_is = kept_run kept is_long line run n h e;
+pub came_part : (preserved : List ℕ) (is_long : Bool) (line run : List ℕ) (n : ℕ) → HasCome preserved is_long line →
+    IsOneLine run → n ≡ min (length run) (LINE_BYTES - length preserved) → n < length run →
+    HasCome (preserved ++ take n run) true (line ++ run)
+came_part preserved is_long line run n h one e part = record {
+  preserved_is = preserved_run preserved is_long line run n h e;
   long_is = sym (lt-ltb LINE_BYTES (length (line ++ run))
-      (omega (arith, length-append line run, kept_length kept line is_long h)));
+      (omega (arith, length-append line run, preserved_length preserved line is_long h)));
   no_end = IsOneLine-append line run h.no_end one;
 }
 
-pub skips_long : (kept : List ℕ) (is_long : Bool) (line : List ℕ) → is_long ≡ true → HasCome kept is_long line →
+pub skips_long : (preserved : List ℕ) (is_long : Bool) (line : List ℕ) → is_long ≡ true →
+    HasCome preserved is_long line →
     false ≡ is_skipped line
-skips_long kept is_long line e h =
+skips_long preserved is_long line e h =
     let over : nat_le (length line) LINE_BYTES ≡ false =
     lt-leb (length line) LINE_BYTES (ltb-true LINE_BYTES (length line) (sym h.long_is ∙ e)) in
     rw over refl
 
-pub skips_short : (kept : List ℕ) (is_long : Bool) (line : List ℕ) → is_long ≡ false →
-    HasCome kept is_long line →
-    list_all is_space kept ≡ is_skipped line
-skips_short kept is_long line e h =
+pub skips_short : (preserved : List ℕ) (is_long : Bool) (line : List ℕ) → is_long ≡ false →
+    HasCome preserved is_long line →
+    list_all is_space preserved ≡ is_skipped line
+skips_short preserved is_long line e h =
     let fits : length line ≤ LINE_BYTES = ltb-false LINE_BYTES (length line) (sym h.long_is ∙ e) in
-    rw (le-leb (length line) LINE_BYTES fits, h.kept_is, take_all LINE_BYTES line fits) refl
+    rw (le-leb (length line) LINE_BYTES fits, h.preserved_is, take_all LINE_BYTES line fits) refl
 
-pub refuses_long : (room : ℕ) (kept : List ℕ) (is_long : Bool) (line : List ℕ) → is_long ≡ true →
-    HasCome kept is_long line → ask_on_line room line ≡ Err TooLong
+pub refuses_long : (room : ℕ) (preserved : List ℕ) (is_long : Bool) (line : List ℕ) → is_long ≡ true →
+    HasCome preserved is_long line → ask_on_line room line ≡ Err TooLong
 unfolding document fitted_document ask_on_line
-refuses_long room kept is_long line e h = rw (sym h.long_is ∙ e) refl
+refuses_long room preserved is_long line e h = rw (sym h.long_is ∙ e) refl

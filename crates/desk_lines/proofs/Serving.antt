@@ -23,9 +23,9 @@ prefix_whole : {A : Type 0} (xs : List A) → IsPrefix (xs ++ []) xs
 prefix_whole xs = ([], append-nil (xs ++ []) ∙ append-nil xs)
 
 -- the same in front of both, where a prefix has two parts
-prefix_behind : {A : Type 0} (xs ys zs all : List A) → IsPrefix (ys ++ zs) all →
+prefix_after : {A : Type 0} (xs ys zs all : List A) → IsPrefix (ys ++ zs) all →
     IsPrefix ((xs ++ ys) ++ zs) (xs ++ all)
-prefix_behind xs ys zs all h = (
+prefix_after xs ys zs all h = (
   h.0,
   ap (λ l. l ++ h.0) (append_assoc xs ys zs) ∙ append_assoc xs (ys ++ zs) h.0 ∙ ap (λ l. xs ++ l) h.1,
 )
@@ -68,11 +68,11 @@ line_ends line run rest one =
     ∙ lines_of-end (line ++ run) rest one
 
 -- bytes with a line cut out after a front
-cut_bytes : (bytes front rest run behind : List ℕ) → bytes ≡ front ++ rest → rest ≡ run ++ 10 ∷ behind →
-    bytes ≡ (front ++ (run ++ 10 ∷ [])) ++ behind
-cut_bytes bytes front rest run behind e cut =
-    e ∙ ap (λ l. front ++ l) (cut ∙ sym (append_assoc run (10 ∷ []) behind))
-    ∙ sym (append_assoc front (run ++ 10 ∷ []) behind)
+cut_bytes : (bytes front rest run after : List ℕ) → bytes ≡ front ++ rest → rest ≡ run ++ 10 ∷ after →
+    bytes ≡ (front ++ (run ++ 10 ∷ [])) ++ after
+cut_bytes bytes front rest run after e cut =
+    e ∙ ap (λ l. front ++ l) (cut ∙ sym (append_assoc run (10 ∷ []) after))
+    ∙ sym (append_assoc front (run ++ 10 ∷ []) after)
 
 pub on_ok : {T E P : Type 0} (r : Result T E) → P → OnOk r P
 on_ok (Ok x) p = p
@@ -130,16 +130,16 @@ module _ {S : Type 0} (answers : S → List ℕ → List ℕ → S → Type 0)
       Served answers a s lines b t → Keeps t u → Ends answers gives_up r a s lines [] b u
   ends_whole r a b s t u lines h k = (h.0, b, h.1, refl, inl (Appends-kept s t u (joined h.0) h.2 k))
 
-  pub goes_none : (a : S) (s : Option (List ℕ)) (line kept : List ℕ) (long : Bool) → HasCome kept long line →
-      Goes answers a s line [] kept long a s
-  goes_none a s line kept long h = ([], line, h, λ rest. refl, ([], refl, Appends-nil s))
+  pub goes_none : (a : S) (s : Option (List ℕ)) (line preserved : List ℕ) (long : Bool) → HasCome preserved long line →
+      Goes answers a s line [] preserved long a s
+  goes_none a s line preserved long h = ([], line, h, λ rest. refl, ([], refl, Appends-nil s))
 
   -- more bytes come
-  goes_on : (a b c : S) (s t u : Option (List ℕ)) (line bytes more kept kept' : List ℕ) (long long' : Bool) →
-      Goes answers a s line bytes kept long b t →
-      ((next : List ℕ) → HasCome kept long next → Goes answers b t next more kept' long' c u) →
-      Goes answers a s line (bytes ++ more) kept' long' c u
-  goes_on a b c s t u line bytes more kept kept' long long' h k =
+  goes_on : (a b c : S) (s t u : Option (List ℕ)) (line bytes more preserved preserved' : List ℕ) (long long' : Bool) →
+      Goes answers a s line bytes preserved long b t →
+      ((next : List ℕ) → HasCome preserved long next → Goes answers b t next more preserved' long' c u) →
+      Goes answers a s line (bytes ++ more) preserved' long' c u
+  goes_on a b c s t u line bytes more preserved preserved' long long' h k =
       let m = k h.1 h.2 in (
         h.0 ++ m.0,
         m.1,
@@ -149,15 +149,15 @@ module _ {S : Type 0} (answers : S → List ℕ → List ℕ → S → Type 0)
         served-append a b c s t u h.0 m.0 h.4 m.4,
       )
 
-  breaks_on : (r : Refusal) (a b c : S) (s t u : Option (List ℕ)) (line bytes more kept : List ℕ) (long : Bool) →
-      Goes answers a s line bytes kept long b t →
-      ((next : List ℕ) → HasCome kept long next → Breaks answers gives_up r b t next more c u) →
+  breaks_on : (r : Refusal) (a b c : S) (s t u : Option (List ℕ)) (line bytes more preserved : List ℕ) (long : Bool) →
+      Goes answers a s line bytes preserved long b t →
+      ((next : List ℕ) → HasCome preserved long next → Breaks answers gives_up r b t next more c u) →
       Breaks answers gives_up r a s line (bytes ++ more) c u
-  breaks_on r a b c s t u line bytes more kept long h k =
+  breaks_on r a b c s t u line bytes more preserved long h k =
       let m = k h.1 h.2 in (
         h.0 ++ m.0,
         m.1,
-        λ rest. let p = prefix_behind h.0 m.0 m.1 (lines_of (h.1 ++ (more ++ rest))) (m.2 rest) in (
+        λ rest. let p = prefix_after h.0 m.0 m.1 (lines_of (h.1 ++ (more ++ rest))) (m.2 rest) in (
           p.0,
           p.1 ∙ sym (h.3 (more ++ rest)) ∙ ap (λ l. lines_of (line ++ l)) (sym (append_assoc bytes more rest)),
         ),
@@ -178,23 +178,23 @@ module _ {S : Type 0} (answers : S → List ℕ → List ℕ → S → Type 0)
   )
 
   -- a run of a line
-  goes_run : (a : S) (s : Option (List ℕ)) (line run kept : List ℕ) (long : Bool) →
-      HasCome kept long (line ++ run) → Goes answers a s line run kept long a s
-  goes_run a s line run kept long h =
+  goes_run : (a : S) (s : Option (List ℕ)) (line run preserved : List ℕ) (long : Bool) →
+      HasCome preserved long (line ++ run) → Goes answers a s line run preserved long a s
+  goes_run a s line run preserved long h =
       ([], line ++ run, h, λ rest. ap lines_of (sym (append_assoc line run rest)), ([], refl, Appends-nil s))
 
   -- the last run of a line, and the newline
-  pub goes_line : (a b : S) (s t : Option (List ℕ)) (line run kept kept' : List ℕ) (long long' : Bool) →
-      HasCome kept long (line ++ run) → HasCome kept' long' [] →
+  pub goes_line : (a b : S) (s t : Option (List ℕ)) (line run preserved preserved' : List ℕ) (long long' : Bool) →
+      HasCome preserved long (line ++ run) → HasCome preserved' long' [] →
       Served answers a s ((line ++ run) ∷ []) b t →
-      Goes answers a s line (run ++ 10 ∷ []) kept' long' b t
-  goes_line a b s t line run kept kept' long long' h k m =
+      Goes answers a s line (run ++ 10 ∷ []) preserved' long' b t
+  goes_line a b s t line run preserved preserved' long long' h k m =
       ((line ++ run) ∷ [], [], k, λ rest. line_ends line run rest h.no_end, m)
 
-  pub breaks_line : (r : Refusal) (a b : S) (s t : Option (List ℕ)) (line run kept : List ℕ) (long : Bool) →
-      HasCome kept long (line ++ run) → BreaksOff answers gives_up r a s ((line ++ run) ∷ []) b t →
+  pub breaks_line : (r : Refusal) (a b : S) (s t : Option (List ℕ)) (line run preserved : List ℕ) (long : Bool) →
+      HasCome preserved long (line ++ run) → BreaksOff answers gives_up r a s ((line ++ run) ∷ []) b t →
       Breaks answers gives_up r a s line (run ++ 10 ∷ []) b t
-  breaks_line r a b s t line run kept long h m = (
+  breaks_line r a b s t line run preserved long h m = (
     m.0,
     m.1,
     λ rest. (
@@ -246,125 +246,125 @@ module _ {S : Type 0} (answers : S → List ℕ → List ℕ → S → Type 0)
   -- a front of the bytes was taken, and this rest of them is left
   abbrev pub HasTaken : List ℕ → List ℕ → S → Option (List ℕ) → List ℕ → Bool → List ℕ → Bool → S →
       Option (List ℕ) → Type 0
-  HasTaken bytes rest a s first first_long kept long b t =
+  HasTaken bytes rest a s first first_long preserved long b t =
       (front : List ℕ) × (bytes ≡ front ++ rest)
-      × ((line : List ℕ) → HasCome first first_long line → Goes answers a s line front kept long b t)
+      × ((line : List ℕ) → HasCome first first_long line → Goes answers a s line front preserved long b t)
 
   pub taken_none : (bytes : List ℕ) (a : S) (s : Option (List ℕ)) (first : List ℕ) (first_long : Bool) →
       HasTaken bytes bytes a s first first_long first first_long a s
   taken_none bytes a s first first_long = ([], refl, λ line h. goes_none a s line first first_long h)
 
   -- a line more was taken
-  pub taken_line : (bytes rest run behind : List ℕ) (a b c : S) (s t u : Option (List ℕ))
-      (first kept kept' : List ℕ) (first_long long long' : Bool) →
-      HasTaken bytes rest a s first first_long kept long b t → rest ≡ run ++ 10 ∷ behind →
-      ((next : List ℕ) → HasCome kept long next →
-      Goes answers b t next (run ++ 10 ∷ []) kept' long' c u) →
-      HasTaken bytes behind a s first first_long kept' long' c u
-  taken_line bytes rest run behind a b c s t u first kept kept' first_long long long' h cut k = (
+  pub taken_line : (bytes rest run after : List ℕ) (a b c : S) (s t u : Option (List ℕ))
+      (first preserved preserved' : List ℕ) (first_long long long' : Bool) →
+      HasTaken bytes rest a s first first_long preserved long b t → rest ≡ run ++ 10 ∷ after →
+      ((next : List ℕ) → HasCome preserved long next →
+      Goes answers b t next (run ++ 10 ∷ []) preserved' long' c u) →
+      HasTaken bytes after a s first first_long preserved' long' c u
+  taken_line bytes rest run after a b c s t u first preserved preserved' first_long long long' h cut k = (
     h.0 ++ (run ++ 10 ∷ []),
-    cut_bytes bytes h.0 rest run behind h.1 cut,
-    λ line f. goes_on a b c s t u line h.0 (run ++ 10 ∷ []) kept kept' long long' (h.2 line f) k,
+    cut_bytes bytes h.0 rest run after h.1 cut,
+    λ line f. goes_on a b c s t u line h.0 (run ++ 10 ∷ []) preserved preserved' long long' (h.2 line f) k,
   )
 
-  pub taken_broken : (r : Refusal) (bytes rest run behind : List ℕ) (a b c : S) (s t u : Option (List ℕ))
-      (first kept : List ℕ) (first_long long : Bool) →
-      HasTaken bytes rest a s first first_long kept long b t → rest ≡ run ++ 10 ∷ behind →
-      ((next : List ℕ) → HasCome kept long next →
+  pub taken_broken : (r : Refusal) (bytes rest run after : List ℕ) (a b c : S) (s t u : Option (List ℕ))
+      (first preserved : List ℕ) (first_long long : Bool) →
+      HasTaken bytes rest a s first first_long preserved long b t → rest ≡ run ++ 10 ∷ after →
+      ((next : List ℕ) → HasCome preserved long next →
       Breaks answers gives_up r b t next (run ++ 10 ∷ []) c u) →
       (line : List ℕ) → HasCome first first_long line → Breaks answers gives_up r a s line bytes c u
-  taken_broken r bytes rest run behind a b c s t u first kept first_long long h cut k line f =
+  taken_broken r bytes rest run after a b c s t u first preserved first_long long h cut k line f =
       subst (λ (l : List ℕ). Breaks answers gives_up r a s line l c u)
-      (sym (cut_bytes bytes h.0 rest run behind h.1 cut))
-      (breaks_before r a c s u line (h.0 ++ (run ++ 10 ∷ [])) behind
-      (breaks_on r a b c s t u line h.0 (run ++ 10 ∷ []) kept long (h.2 line f) k))
+      (sym (cut_bytes bytes h.0 rest run after h.1 cut))
+      (breaks_before r a c s u line (h.0 ++ (run ++ 10 ∷ [])) after
+      (breaks_on r a b c s t u line h.0 (run ++ 10 ∷ []) preserved long (h.2 line f) k))
 
   -- the last run was taken
-  pub taken_all : (bytes rest : List ℕ) (a b : S) (s t : Option (List ℕ)) (first kept kept' : List ℕ)
-      (first_long long long' : Bool) → HasTaken bytes rest a s first first_long kept long b t →
-      ((next : List ℕ) → HasCome kept long next → HasCome kept' long' (next ++ rest)) →
-      (line : List ℕ) → HasCome first first_long line → Goes answers a s line bytes kept' long' b t
-  taken_all bytes rest a b s t first kept kept' first_long long long' h k line f =
-      subst (λ (l : List ℕ). Goes answers a s line l kept' long' b t) (sym h.1)
-      (goes_on a b b s t t line h.0 rest kept kept' long long' (h.2 line f)
-      (λ next n. goes_run b t next rest kept' long' (k next n)))
+  pub taken_all : (bytes rest : List ℕ) (a b : S) (s t : Option (List ℕ)) (first preserved preserved' : List ℕ)
+      (first_long long long' : Bool) → HasTaken bytes rest a s first first_long preserved long b t →
+      ((next : List ℕ) → HasCome preserved long next → HasCome preserved' long' (next ++ rest)) →
+      (line : List ℕ) → HasCome first first_long line → Goes answers a s line bytes preserved' long' b t
+  taken_all bytes rest a b s t first preserved preserved' first_long long long' h k line f =
+      subst (λ (l : List ℕ). Goes answers a s line l preserved' long' b t) (sym h.1)
+      (goes_on a b b s t t line h.0 rest preserved preserved' long long' (h.2 line f)
+      (λ next n. goes_run b t next rest preserved' long' (k next n)))
 
   -- the input is at its end
-  pub served_nothing : (a : S) (s : Option (List ℕ)) (line kept : List ℕ) (long : Bool) →
-      length kept ≡ 0 → HasCome kept long line → Served answers a s (lines_of line) a s
-  served_nothing a s [] kept long e h = ([], refl, Appends-nil s)
-  served_nothing a s (x ∷ line) kept long e h =
-      absurd (omega (arith, e, ap length h.kept_is, length-take LINE_BYTES (x ∷ line)))
+  pub served_nothing : (a : S) (s : Option (List ℕ)) (line preserved : List ℕ) (long : Bool) →
+      length preserved ≡ 0 → HasCome preserved long line → Served answers a s (lines_of line) a s
+  served_nothing a s [] preserved long e h = ([], refl, Appends-nil s)
+  served_nothing a s (x ∷ line) preserved long e h =
+      absurd (omega (arith, e, ap length h.preserved_is, length-take LINE_BYTES (x ∷ line)))
 
-  pub served_last : (a b : S) (s t : Option (List ℕ)) (line kept : List ℕ) (long : Bool) → 0 < length kept →
-      HasCome kept long line → Served answers a s (line ∷ []) b t →
+  pub served_last : (a b : S) (s t : Option (List ℕ)) (line preserved : List ℕ) (long : Bool) → 0 < length preserved →
+      HasCome preserved long line → Served answers a s (line ∷ []) b t →
       Served answers a s (lines_of line) b t
-  served_last a b s t [] kept long some h m =
-      absurd (omega (arith, some, ap length h.kept_is, length-take {A = ℕ} LINE_BYTES []))
-  served_last a b s t (x ∷ line) kept long some h m = rw (lines_of-last x line h.no_end) m
+  served_last a b s t [] preserved long some h m =
+      absurd (omega (arith, some, ap length h.preserved_is, length-take {A = ℕ} LINE_BYTES []))
+  served_last a b s t (x ∷ line) preserved long some h m = rw (lines_of-last x line h.no_end) m
 
-  pub breaks_last : (r : Refusal) (a b : S) (s t : Option (List ℕ)) (line kept : List ℕ) (long : Bool) →
-      0 < length kept → HasCome kept long line → BreaksOff answers gives_up r a s (line ∷ []) b t →
+  pub breaks_last : (r : Refusal) (a b : S) (s t : Option (List ℕ)) (line preserved : List ℕ) (long : Bool) →
+      0 < length preserved → HasCome preserved long line → BreaksOff answers gives_up r a s (line ∷ []) b t →
       BreaksOff answers gives_up r a s (lines_of line) b t
-  breaks_last r a b s t [] kept long some h m =
-      absurd (omega (arith, some, ap length h.kept_is, length-take {A = ℕ} LINE_BYTES []))
-  breaks_last r a b s t (x ∷ line) kept long some h m = rw (lines_of-last x line h.no_end) m
+  breaks_last r a b s t [] preserved long some h m =
+      absurd (omega (arith, some, ap length h.preserved_is, length-take {A = ℕ} LINE_BYTES []))
+  breaks_last r a b s t (x ∷ line) preserved long some h m = rw (lines_of-last x line h.no_end) m
 
   -- all was served, and it breaks off
   pub breaks_whole : (r : Refusal) (a b : S) (s t u : Option (List ℕ)) (lines : List (List ℕ)) →
       Served answers a s lines b t → Keeps t u → BreaksOff answers gives_up r a s lines b u
   breaks_whole r a b s t u lines h k = (lines, [], prefix_whole lines, ends_whole r a b s t u lines h k)
 
-  pub served_kept : (a b : S) (s t u : Option (List ℕ)) (lines : List (List ℕ)) → Served answers a s lines b t →
+  pub served_preserved : (a b : S) (s t u : Option (List ℕ)) (lines : List (List ℕ)) → Served answers a s lines b t →
       Keeps t u → Served answers a s lines b u
-  served_kept a b s t u lines h k = (h.0, h.1, Appends-kept s t u (joined h.0) h.2 k)
+  served_preserved a b s t u lines h k = (h.0, h.1, Appends-kept s t u (joined h.0) h.2 k)
 
   -- the reader had the input, of which `now` is left
   abbrev pub IsUnderWay : Option (List ℕ) → Option (List ℕ) → S → Option (List ℕ) → List ℕ → Bool → S →
       Option (List ℕ) → Type 0
-  IsUnderWay None now old s kept long new t = Unit {0}
-  IsUnderWay (Some input) None old s kept long new t = ⊥
-  IsUnderWay (Some input) (Some rest) old s kept long new t =
-      (read : List ℕ) × (input ≡ read ++ rest) × Goes answers old s [] read kept long new t
+  IsUnderWay None now old s preserved long new t = Unit {0}
+  IsUnderWay (Some input) None old s preserved long new t = ⊥
+  IsUnderWay (Some input) (Some rest) old s preserved long new t =
+      (read : List ℕ) × (input ≡ read ++ rest) × Goes answers old s [] read preserved long new t
 
-  pub begins : (input : Option (List ℕ)) (a : S) (s : Option (List ℕ)) (kept : List ℕ) (long : Bool) →
-      HasCome kept long [] → IsUnderWay input input a s kept long a s
-  begins None a s kept long h = tt
-  begins (Some input) a s kept long h = ([], refl, goes_none a s [] kept long h)
+  pub begins : (input : Option (List ℕ)) (a : S) (s : Option (List ℕ)) (preserved : List ℕ) (long : Bool) →
+      HasCome preserved long [] → IsUnderWay input input a s preserved long a s
+  begins None a s preserved long h = tt
+  begins (Some input) a s preserved long h = ([], refl, goes_none a s [] preserved long h)
 
   -- something of a line has come after these bytes too
-  pub some_come : (a b : S) (s t : Option (List ℕ)) (bytes first kept : List ℕ) (first_long long : Bool) →
+  pub some_come : (a b : S) (s t : Option (List ℕ)) (bytes first preserved : List ℕ) (first_long long : Bool) →
       ((line : List ℕ) × HasCome first first_long line) →
-      ((line : List ℕ) → HasCome first first_long line → Goes answers a s line bytes kept long b t) →
-      (line : List ℕ) × HasCome kept long line
-  some_come a b s t bytes first kept first_long long h k = let m = k h.0 h.1 in (m.1, m.2)
+      ((line : List ℕ) → HasCome first first_long line → Goes answers a s line bytes preserved long b t) →
+      (line : List ℕ) × HasCome preserved long line
+  some_come a b s t bytes first preserved first_long long h k = let m = k h.0 h.1 in (m.1, m.2)
 
-  goes_kept : (a b : S) (s t u : Option (List ℕ)) (line bytes kept : List ℕ) (long : Bool) →
-      Goes answers a s line bytes kept long b t → Keeps t u → Goes answers a s line bytes kept long b u
-  goes_kept a b s t u line bytes kept long h k = (h.0, h.1, h.2, h.3, served_kept a b s t u h.0 h.4 k)
+  goes_preserved : (a b : S) (s t u : Option (List ℕ)) (line bytes preserved : List ℕ) (long : Bool) →
+      Goes answers a s line bytes preserved long b t → Keeps t u → Goes answers a s line bytes preserved long b u
+  goes_preserved a b s t u line bytes preserved long h k = (h.0, h.1, h.2, h.3, served_preserved a b s t u h.0 h.4 k)
 
   pub reads_on : (input now after : Option (List ℕ)) (a b c : S) (s t u v : Option (List ℕ))
-      (chunk kept kept' : List ℕ) (long long' : Bool) → IsUnderWay input now a s kept long b t →
+      (chunk preserved preserved' : List ℕ) (long long' : Bool) → IsUnderWay input now a s preserved long b t →
       Consumes now after chunk →
-      ((next : List ℕ) → HasCome kept long next → Goes answers b t next chunk kept' long' c u) → Keeps u v →
-      IsUnderWay input after a s kept' long' c v
-  reads_on None now after a b c s t u v chunk kept kept' long long' w e k z = tt
-  reads_on (Some input) None after a b c s t u v chunk kept kept' long long' w e k z = absurd w
-  reads_on (Some input) (Some rest) None a b c s t u v chunk kept kept' long long' w e k z = absurd e
-  reads_on (Some input) (Some rest) (Some rest') a b c s t u v chunk kept kept' long long' w e k z = (
+      ((next : List ℕ) → HasCome preserved long next → Goes answers b t next chunk preserved' long' c u) → Keeps u v →
+      IsUnderWay input after a s preserved' long' c v
+  reads_on None now after a b c s t u v chunk preserved preserved' long long' w e k z = tt
+  reads_on (Some input) None after a b c s t u v chunk preserved preserved' long long' w e k z = absurd w
+  reads_on (Some input) (Some rest) None a b c s t u v chunk preserved preserved' long long' w e k z = absurd e
+  reads_on (Some input) (Some rest) (Some rest') a b c s t u v chunk preserved preserved' long long' w e k z = (
     w.0 ++ chunk,
     w.1 ∙ ap (λ l. w.0 ++ l) e ∙ sym (append_assoc w.0 chunk rest'),
-    goes_kept a c s u v [] (w.0 ++ chunk) kept' long'
-        (goes_on a b c s t u [] w.0 chunk kept kept' long long' w.2 k) z,
+    goes_preserved a c s u v [] (w.0 ++ chunk) preserved' long'
+        (goes_on a b c s t u [] w.0 chunk preserved preserved' long long' w.2 k) z,
   )
 
   -- it stops here
-  pub stops : (r : Refusal) (input now : Option (List ℕ)) (a b : S) (s t u : Option (List ℕ)) (kept : List ℕ)
-      (long : Bool) → IsUnderWay input now a s kept long b t → Keeps t u →
+  pub stops : (r : Refusal) (input now : Option (List ℕ)) (a b : S) (s t u : Option (List ℕ)) (preserved : List ℕ)
+      (long : Bool) → IsUnderWay input now a s preserved long b t → Keeps t u →
       IfSome input (λ xs. BreaksOff answers gives_up r a s (lines_of xs) b u)
-  stops r None now a b s t u kept long w k = tt
-  stops r (Some input) None a b s t u kept long w k = absurd w
-  stops r (Some input) (Some rest) a b s t u kept long w k =
+  stops r None now a b s t u preserved long w k = tt
+  stops r (Some input) None a b s t u preserved long w k = absurd w
+  stops r (Some input) (Some rest) a b s t u preserved long w k =
       let h = w.2 in (
         h.0,
         [],
@@ -377,46 +377,47 @@ module _ {S : Type 0} (answers : S → List ℕ → List ℕ → S → Type 0)
 
   -- it breaks off within these bytes
   pub breaks_within : (r : Refusal) (input now after : Option (List ℕ)) (a b c : S) (s t u : Option (List ℕ))
-      (chunk kept : List ℕ) (long : Bool) → IsUnderWay input now a s kept long b t → Consumes now after chunk →
-      ((next : List ℕ) → HasCome kept long next → Breaks answers gives_up r b t next chunk c u) →
+      (chunk preserved : List ℕ) (long : Bool) → IsUnderWay input now a s preserved long b t →
+      Consumes now after chunk →
+      ((next : List ℕ) → HasCome preserved long next → Breaks answers gives_up r b t next chunk c u) →
       IfSome input (λ xs. BreaksOff answers gives_up r a s (lines_of xs) c u)
-  breaks_within r None now after a b c s t u chunk kept long w e k = tt
-  breaks_within r (Some input) None after a b c s t u chunk kept long w e k = absurd w
-  breaks_within r (Some input) (Some rest) None a b c s t u chunk kept long w e k = absurd e
-  breaks_within r (Some input) (Some rest) (Some rest') a b c s t u chunk kept long w e k =
-      let m = breaks_on r a b c s t u [] w.0 chunk kept long w.2 k in
+  breaks_within r None now after a b c s t u chunk preserved long w e k = tt
+  breaks_within r (Some input) None after a b c s t u chunk preserved long w e k = absurd w
+  breaks_within r (Some input) (Some rest) None a b c s t u chunk preserved long w e k = absurd e
+  breaks_within r (Some input) (Some rest) (Some rest') a b c s t u chunk preserved long w e k =
+      let m = breaks_on r a b c s t u [] w.0 chunk preserved long w.2 k in
       let all : (w.0 ++ chunk) ++ rest' ≡ input =
       append_assoc w.0 chunk rest' ∙ ap (λ l. w.0 ++ l) (sym e) ∙ sym w.1 in
       (m.0, m.1, ((m.2 rest').0, (m.2 rest').1 ∙ ap lines_of all), m.3)
 
   -- the input ends
-  pub ends_well : (input now after : Option (List ℕ)) (a b c : S) (s t u : Option (List ℕ)) (kept : List ℕ)
-      (long : Bool) → IsUnderWay input now a s kept long b t → Consumes now after [] → IsAtEnd after →
-      ((line : List ℕ) → HasCome kept long line → Served answers b t (lines_of line) c u) →
+  pub ends_well : (input now after : Option (List ℕ)) (a b c : S) (s t u : Option (List ℕ)) (preserved : List ℕ)
+      (long : Bool) → IsUnderWay input now a s preserved long b t → Consumes now after [] → IsAtEnd after →
+      ((line : List ℕ) → HasCome preserved long line → Served answers b t (lines_of line) c u) →
       IfSome input (λ xs. Served answers a s (lines_of xs) c u)
-  ends_well None now after a b c s t u kept long w e z k = tt
-  ends_well (Some input) None after a b c s t u kept long w e z k = absurd w
-  ends_well (Some input) (Some rest) None a b c s t u kept long w e z k = absurd e
-  ends_well (Some input) (Some rest) (Some rest') a b c s t u kept long w e z k =
+  ends_well None now after a b c s t u preserved long w e z k = tt
+  ends_well (Some input) None after a b c s t u preserved long w e z k = absurd w
+  ends_well (Some input) (Some rest) None a b c s t u preserved long w e z k = absurd e
+  ends_well (Some input) (Some rest) (Some rest') a b c s t u preserved long w e z k =
       let h = w.2 in
       let lines : lines_of input ≡ h.0 ++ lines_of h.1 =
       ap lines_of (w.1 ∙ ap (λ l. w.0 ++ l) (e ∙ z)) ∙ h.3 [] ∙ ap (λ l. h.0 ++ lines_of l) (append-nil h.1) in
       rw lines (served-append a b c s t u h.0 (lines_of h.1) h.4 (k h.1 h.2))
 
   pub ends_badly : (r : Refusal) (input now after : Option (List ℕ)) (a b c : S) (s t u : Option (List ℕ))
-      (kept : List ℕ) (long : Bool) → IsUnderWay input now a s kept long b t → Consumes now after [] →
+      (preserved : List ℕ) (long : Bool) → IsUnderWay input now a s preserved long b t → Consumes now after [] →
       IsAtEnd after →
-      ((line : List ℕ) → HasCome kept long line → BreaksOff answers gives_up r b t (lines_of line) c u) →
+      ((line : List ℕ) → HasCome preserved long line → BreaksOff answers gives_up r b t (lines_of line) c u) →
       IfSome input (λ xs. BreaksOff answers gives_up r a s (lines_of xs) c u)
-  ends_badly r None now after a b c s t u kept long w e z k = tt
-  ends_badly r (Some input) None after a b c s t u kept long w e z k = absurd w
-  ends_badly r (Some input) (Some rest) None a b c s t u kept long w e z k = absurd e
-  ends_badly r (Some input) (Some rest) (Some rest') a b c s t u kept long w e z k =
+  ends_badly r None now after a b c s t u preserved long w e z k = tt
+  ends_badly r (Some input) None after a b c s t u preserved long w e z k = absurd w
+  ends_badly r (Some input) (Some rest) None a b c s t u preserved long w e z k = absurd e
+  ends_badly r (Some input) (Some rest) (Some rest') a b c s t u preserved long w e z k =
       let h = w.2 in
       let m = k h.1 h.2 in
       let lines : lines_of input ≡ h.0 ++ lines_of h.1 =
       ap lines_of (w.1 ∙ ap (λ l. w.0 ++ l) (e ∙ z)) ∙ h.3 [] ∙ ap (λ l. h.0 ++ lines_of l) (append-nil h.1) in
-      let p = prefix_behind h.0 m.0 m.1 (lines_of h.1) m.2 in (
+      let p = prefix_after h.0 m.0 m.1 (lines_of h.1) m.2 in (
         h.0 ++ m.0,
         m.1,
         (p.0, p.1 ∙ sym lines),

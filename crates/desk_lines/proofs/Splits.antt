@@ -59,10 +59,10 @@ lines_of-split [] some = absurd (omega arith)
 lines_of-split (x ∷ xs) some = lines_by-at x xs (eqb x 10) refl (λ more. lines_of-split xs more)
 
 -- a text of one line
-pub lines_of-alone : (text front behind : List ℕ) → 0 < length text → None ≡ split_at 10 text →
-    front ≡ take (length text) text → behind ≡ drop (length text) text → lines_of text ≡ front ∷ lines_of behind
-lines_of-alone text front behind some none front_is behind_is =
-    rw (front_is, behind_is, take_all (length text) text (omega arith), drop_all (length text) text (omega arith))
+pub lines_of-alone : (text front after : List ℕ) → 0 < length text → None ≡ split_at 10 text →
+    front ≡ take (length text) text → after ≡ drop (length text) text → lines_of text ≡ front ∷ lines_of after
+lines_of-alone text front after some none front_is after_is =
+    rw (front_is, after_is, take_all (length text) text (omega arith), drop_all (length text) text (omega arith))
     (lines_of-split text some ∙ ap (lines_by text) (sym none))
 
 -- what stands after the first newline is shorter

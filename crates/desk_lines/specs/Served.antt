@@ -31,8 +31,8 @@ module _ {S : Type 0} (answers : S → List ℕ → List ℕ → S → Type 0) w
 
   -- Bytes came after this much of a line: these lines have ended and were answered, and this much of the next has come.
   abbrev pub Goes : S → Option (List ℕ) → List ℕ → List ℕ → List ℕ → Bool → S → Option (List ℕ) → Type 0
-  Goes old out line bytes kept is_long new out' =
-      (lines : List (List ℕ)) × (next : List ℕ) × HasCome kept is_long next
+  Goes old out line bytes preserved is_long new out' =
+      (lines : List (List ℕ)) × (next : List ℕ) × HasCome preserved is_long next
       × ((rest : List ℕ) → lines_of (line ++ (bytes ++ rest)) ≡ lines ++ lines_of (next ++ rest))
       × Served old out lines new out'
 

@@ -49,9 +49,9 @@ impl LineBuffer {
         requires { IsOneLine run.now }
         ensures { (line : List ℕ) → HoldsLine self.old line → HoldsLine self.new (line ++ run.now) }
     {
-        let kept = run.len().min(LINE_BYTES - self.bytes.len());
-        self.bytes.extend_from_slice(&run[..kept]).unwrap();
-        if kept < run.len() {
+        let preserved = run.len().min(LINE_BYTES - self.bytes.len());
+        self.bytes.extend_from_slice(&run[..preserved]).unwrap();
+        if preserved < run.len() {
             self.is_long = true;
         }
     }

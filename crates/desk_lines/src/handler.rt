@@ -46,9 +46,9 @@ pub trait Handler {
     ghost gives_up: { Self → List ℕ → Refusal → Self → Type 0 };
 
     /// What no answer changes.
-    ghost Kept: { Type 0 } = { Unit {0} };
+    ghost Preserved: { Type 0 } = { Unit {0} };
 
-    ghost kept: { Self → Self.Kept };
+    ghost preserved: { Self → Self.Preserved };
 
     /// Answers the line that has come. Where that fails, for want of memory (40) or by a fault of reading (43) or of
     /// writing (44), no further line is answered.
@@ -57,5 +57,5 @@ pub trait Handler {
             answers self text (bytes_of reply) result.0) }
         ensures err { IfErr result.1 (λ r. (text : List ℕ) → HoldsLine line.now text → gives_up self text r result.0) }
         ensures fault { IfErr result.1 IsStreamFault }
-        ensures kept { kept result.0 ≡ kept self };
+        ensures preserved { preserved result.0 ≡ preserved self };
 }

@@ -59,7 +59,7 @@ impl<D: Handler> Serving<D> {
         ensures calls { (line : List ℕ) → HoldsLine self.line line →
             MatchResult result.1 (λ _. W.failed writer.new ≡ W.failed writer.old)
             (λ r. IsWritersFault (GaveUp D.gives_up) r (W.failed writer.old) (W.failed writer.new)) }
-        ensures kept { D.kept result.0.handler ≡ D.kept self.handler }
+        ensures preserved { D.preserved result.0.handler ≡ D.preserved self.handler }
     {
         let Serving { handler, mut line } = self;
         if line.is_skipped() {
@@ -96,7 +96,7 @@ impl<D: Handler> Serving<D> {
         ensures calls { (line : List ℕ) → HoldsLine self.line line →
             MatchResult result.1 (λ _. W.failed writer.new ≡ W.failed writer.old)
             (λ r. IsWritersFault (GaveUp D.gives_up) r (W.failed writer.old) (W.failed writer.new)) }
-        ensures kept { D.kept result.0.handler ≡ D.kept self.handler }
+        ensures preserved { D.preserved result.0.handler ≡ D.preserved self.handler }
     {
         let Serving { handler, mut line } = self;
         line.push_run(run);
@@ -120,17 +120,17 @@ impl<D: Handler> Serving<D> {
         ensures calls { (line : List ℕ) → HoldsLine self.line line →
             MatchResult result.1 (λ _. W.failed writer.new ≡ W.failed writer.old)
             (λ r. IsWritersFault (GaveUp D.gives_up) r (W.failed writer.old) (W.failed writer.new)) }
-        ensures kept { D.kept result.0.handler ≡ D.kept self.handler }
+        ensures preserved { D.preserved result.0.handler ≡ D.preserved self.handler }
     {
         let mut serving = self;
         let mut rest = bytes;
-        'runs: while let Some((run, behind)) = split_at_first(rest, b'\n') {
+        'runs: while let Some((run, after)) = split_at_first(rest, b'\n') {
             let (back, outcome) = serving.take_line(writer, gate, run);
             serving = back;
             if let Err(refusal) = outcome {
                 return (serving, Err(refusal));
             }
-            rest = behind;
+            rest = after;
         }
         serving.line.push_run(rest);
         (serving, Ok(()))
@@ -159,7 +159,7 @@ impl<D: Handler> Serving<D> {
         ensures calls { (line : List ℕ) → HoldsLine self.line line →
             MatchResult result.1 (λ _. W.failed writer.new ≡ W.failed writer.old)
             (λ r. IsWritersFault (GaveUp D.gives_up) r (W.failed writer.old) (W.failed writer.new)) }
-        ensures kept { D.kept result.0 ≡ D.kept self.handler }
+        ensures preserved { D.preserved result.0 ≡ D.preserved self.handler }
     {
         if self.line.bytes.is_empty() {
             return (self.into_desk(), writer.flush());
@@ -196,7 +196,7 @@ pub fn serve_streams<D: Handler, I: ReadPieces, O: WriteTexts, G: Gate>(
         (λ r. IsStreamsFault (IsWantOrHandlers D.gives_up) r
         (I.failed reader.old) (I.failed reader.new) (O.failed writer.old) (O.failed writer.new)) }
     // However it ends, the handler keeps what no answer changes.
-    ensures kept { D.kept result.0 ≡ D.kept handler }
+    ensures preserved { D.preserved result.0 ≡ D.preserved handler }
 {
     let line = match LineBuffer::new(alloc) {
         Ok(line) => line,
@@ -250,7 +250,7 @@ pub fn serve_lines<D: Handler, I: Read, O: Write, G: Gate>(
         result.0 (O.contents writer.new))) }
     ensures fault { IfErr result.1 IsStreamFault }
     // However it ends, the handler keeps what no answer changes.
-    ensures kept { D.kept result.0 ≡ D.kept handler }
+    ensures preserved { D.preserved result.0 ≡ D.preserved handler }
 {
     serve_streams(alloc, reader, writer, handler, gate)
 }

@@ -33,7 +33,7 @@ pub trait ReadPieces {
         ensures within { IfOk result (λ count. count ≤ length room.new) }
         ensures end { IfOk result (λ count. count ≡ 0 → IsAtEnd (remaining self.new)) }
         ensures same_room { length room.new ≡ length room.old }
-        ensures kept { OnErr result (Keeps (remaining self.old) (remaining self.new)) }
+        ensures preserved { OnErr result (Keeps (remaining self.old) (remaining self.new)) }
         ensures fault { IfErr result (λ r. r ≡ refusals.ReadFault) }
         ensures counted { reads.old < STREAM_READS → reads.new ≡ reads.old + 1 }
         // A stream is read so often at most.

@@ -109,19 +109,20 @@ has_other first client [] other h = absurd h
 has_other first client (c ∷ cs) other h =
     has_step first client c cs (eqb first c) other refl (has_other first client cs other) h
 
-told_step : (place client found : ℕ) (e : Entry) (cs : List ℕ) (o : Option ℕ) (same : Bool) →
+reported_step : (place client found : ℕ) (e : Entry) (cs : List ℕ) (o : Option ℕ) (same : Bool) →
     eqb e.client client ≡ same → (o ≡ Some found → IsAmong client cs) →
     option_or o (cond same (Some place) None) ≡ Some found → IsAmong client (e.client ∷ without e.client cs)
-told_step place client found e cs o true is rest h = inl (eqb-true e.client client is)
-told_step place client found e cs None false is rest h = absurd (none-some found h)
-told_step place client found e cs (Some p) false is rest h = inr (has_other e.client client cs is (rest h))
+reported_step place client found e cs o true is rest h = inl (eqb-true e.client client is)
+reported_step place client found e cs None false is rest h = absurd (none-some found h)
+reported_step place client found e cs (Some p) false is rest h = inr (has_other e.client client cs is (rest h))
 
-is_told : (place client found : ℕ) (log : List Entry) → latest_from place client log ≡ Some found →
+is_reported : (place client found : ℕ) (log : List Entry) → latest_from place client log ≡ Some found →
     IsAmong client (different_clients log)
-is_told place client found [] h = absurd (none-some found h)
-is_told place client found (e ∷ es) h =
-    told_step place client found e (different_clients es) (latest_from (place + 1) client es) (eqb e.client client) refl
-    (is_told (place + 1) client found es) h
+is_reported place client found [] h = absurd (none-some found h)
+is_reported place client found (e ∷ es) h =
+    reported_step place client found e (different_clients es) (latest_from (place + 1) client es)
+    (eqb e.client client) refl
+    (is_reported (place + 1) client found es) h
 
 contains_mapped : (f : ℕ → ClientRow) (client : ℕ) (cs : List ℕ) → IsAmong client cs → Contains (map f cs) (f client)
 contains_mapped f client [] h = absurd h
@@ -136,4 +137,4 @@ each_client_has_row log client place h =
     let row : client_row log client ≡ client_row_at log client place =
     ap (λ o. client_row_at log client (unwrap_or o 0)) h in
     subst (λ r. Contains (clients log) r) row
-    (contains_mapped (client_row log) client (different_clients log) (is_told 1 client place log h))
+    (contains_mapped (client_row log) client (different_clients log) (is_reported 1 client place log h))

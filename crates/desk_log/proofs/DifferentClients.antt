@@ -67,8 +67,8 @@ different_push (x ∷ xs) e =
 pub rows_push : (log xs more : List Entry) (e : Entry) (rows : List ClientRow) (new : Bool) →
     rows ≡ map (client_row log) (different_clients xs) → more ≡ xs ++ e ∷ [] → new ≡ not (has_entry_of e.client xs) →
     new ≡ true → rows ++ client_row log e.client ∷ [] ≡ map (client_row log) (different_clients more)
-rows_push log xs more e rows new h is told first =
-    let absent : has_entry_of e.client xs ≡ false = not-true (has_entry_of e.client xs) (sym told ∙ first) in
+rows_push log xs more e rows new h is reported first =
+    let absent : has_entry_of e.client xs ≡ false = not-true (has_entry_of e.client xs) (sym reported ∙ first) in
     let met : different_clients (xs ++ e ∷ []) ≡ different_clients xs ++ e.client ∷ [] =
     different_push xs e ∙ ap (λ b. with_client b (different_clients xs) e.client) absent in
     rw (is, met, h) (sym (map-append (client_row log) (different_clients xs) (e.client ∷ [])))
@@ -77,8 +77,8 @@ rows_push log xs more e rows new h is told first =
 pub rows_same : (log xs more : List Entry) (e : Entry) (rows : List ClientRow) (new : Bool) →
     rows ≡ map (client_row log) (different_clients xs) → more ≡ xs ++ e ∷ [] → new ≡ not (has_entry_of e.client xs) →
     new ≡ false → rows ≡ map (client_row log) (different_clients more)
-rows_same log xs more e rows new h is told again =
-    let there : has_entry_of e.client xs ≡ true = not-false (has_entry_of e.client xs) (sym told ∙ again) in
+rows_same log xs more e rows new h is reported again =
+    let there : has_entry_of e.client xs ≡ true = not-false (has_entry_of e.client xs) (sym reported ∙ again) in
     let met : different_clients (xs ++ e ∷ []) ≡ different_clients xs =
     different_push xs e ∙ ap (λ b. with_client b (different_clients xs) e.client) there in
     rw (is, met) h

@@ -25,10 +25,10 @@ pub length_joined : (xs ys : List Entry) (b : ℕ) → b ≤ length xs → lengt
 length_joined xs ys b l = length-append (take b xs) ys ∙ ap (λ k. k + length ys) (length-take-le b xs l)
 
 -- A test for what the given entries go on with is the test for the committed entries.
-pub kept_is : (s : SavedValue) (b : ℕ) (ys : List Entry) (r : Bool) → b ≤ s.commit → s.commit ≤ length s.log →
+pub preserved_is : (s : SavedValue) (b : ℕ) (ys : List Entry) (r : Bool) → b ≤ s.commit → s.commit ≤ length s.log →
     Decides r ((s.commit ≤ b + length ys) × (take (s.commit - b) (drop b s.log) ≡ take (s.commit - b) ys)) →
     r ≡ keeps_committed s (take b s.log ++ ys)
-kept_is s b ys r m l d =
+preserved_is s b ys r m l d =
     let w : b ≤ length s.log = omega (arith, m, l) in
     let len : length (take b s.log ++ ys) ≡ b + length ys = length_joined s.log ys b w in
     let own : take s.commit s.log ≡ take b s.log ++ take (s.commit - b) (drop b s.log) =
@@ -45,8 +45,8 @@ kept_is s b ys r m l d =
     (keeps_committed-Decides s (take b s.log ++ ys))
 
 -- Where it passes, what is committed is within the joined log.
-pub kept_within : (s : SavedValue) (b : ℕ) (ys : List Entry) → b ≤ length s.log →
+pub preserved_within : (s : SavedValue) (b : ℕ) (ys : List Entry) → b ≤ length s.log →
     keeps_committed s (take b s.log ++ ys) ≡ true → s.commit ≤ b + length ys
-kept_within s b ys l t =
+preserved_within s b ys l t =
     let len : length (take b s.log ++ ys) ≡ b + length ys = length_joined s.log ys b l in
     omega (arith, len, ((keeps_committed-Decides s (take b s.log ++ ys)).0 t).0)

@@ -10,9 +10,9 @@ use Rattle.desk_log.specs.SavedValue.{SavedValue}
 use Rattle.desk_log.proofs.Prefixes.{prefix_take, prefix_trans, length-prefix, take-prefix}
 
 -- what was committed stays at the beginning of the log
-front_kept : (k m : ℕ) (old new : List Entry) → k ≤ length old → IsLogPrefix (take k old) (take m new) →
+front_preserved : (k m : ℕ) (old new : List Entry) → k ≤ length old → IsLogPrefix (take k old) (take m new) →
     (k ≤ length new) × (take k old ≡ take k new)
-front_kept k m old new within h =
+front_preserved k m old new within h =
     let there : IsLogPrefix (take k old) new = prefix_trans (take k old) (take m new) new h (prefix_take m new) in
     let n : length (take k old) ≡ k = length-take-le k old within in
     let most = length-prefix (take k old) new there in
@@ -26,7 +26,7 @@ front_after front was old last new given e within is_old is_last is_new h =
     let k : front ≡ old.commit = e ∙ ap (λ (s : SavedValue). s.commit) is_old in
     let least : front ≤ length old.log = subst (λ (s : SavedValue). front ≤ length s.log) is_old within in
     let p = subst (λ (n : ℕ). IsLogPrefix (take n old.log) (take new.commit new.log)) (sym k) h in
-    let f = front_kept front new.commit old.log new.log least p in
+    let f = front_preserved front new.commit old.log new.log least p in
     rw (is_last, is_new) ((least, f.0), f.1)
 
 -- Want of memory is no refusal of the store.

@@ -31,8 +31,8 @@ place_within client log (Some place) h = latest_within client log place (sym h)
 
 pub room_push : (xs more : List Entry) (e : Entry) (old new : LatestPlaces) → HasRoomFor xs old →
     more ≡ xs ++ e ∷ [] → KeepsRoom old new → HasRoom new e.client → HasRoomFor more new
-room_push xs more e old new h is kept here =
-    rw is (All-push (λ x. HasRoom new x.client) xs e (λ k d lt. kept _ (h k d lt)) here)
+room_push xs more e old new h is preserved here =
+    rw is (All-push (λ x. HasRoom new x.client) xs e (λ k d lt. preserved _ (h k d lt)) here)
 
 -- The clients of these entries have no place any more, and the others keep theirs.
 abbrev pub Forgets : List Entry → LatestPlaces → LatestPlaces → Type 0
@@ -50,7 +50,7 @@ forgets_push log more e first old new h is forget c =
         (place_of new c ≡ None) ⊎ ((place_of new c ≡ place_of first c) × (latest c (log ++ e ∷ []) ≡ None))
     by_client true gone found o = inl gone
     by_client false same found (inl none) = inl (same ∙ none)
-    by_client false same found (inr kept) = inr (same ∙ kept.0, found ∙ kept.1)
+    by_client false same found (inr preserved) = inr (same ∙ preserved.0, found ∙ preserved.1)
 
 some_within : (o : Option (Option ℕ)) (place : ℕ) → option_flatten o ≡ Some place → IsSome o
 some_within None place h = absurd (none-some place h)

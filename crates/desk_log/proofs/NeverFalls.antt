@@ -58,28 +58,30 @@ falls_log view log k s order fresh fit =
 
 -- a change that undoes nothing
 pub record UndoesNothing (s : SavedValue) (c : Change) : Type 0 where
-  pub kept : NeverFalls s c.saved
+  pub preserved : NeverFalls s c.saved
 
 pub keeps_if : {s : SavedValue} (b : Bool) {x y : Change} → (b ≡ true → UndoesNothing s x) →
     (b ≡ false → UndoesNothing s y) → UndoesNothing s (cond b x y)
 keeps_if {s} b {x} {y} h k = cond_both b x y (UndoesNothing s) h k
 
 pub keeps_same : (s : SavedValue) (c : Change) → c.saved ≡ s → UndoesNothing s c
-keeps_same s c e = record { kept = rw e (falls_same s) }
+keeps_same s c e = record { preserved = rw e (falls_same s) }
 
 pub keeps_nothing : (s : SavedValue) → UndoesNothing s (nothing s)
-keeps_nothing s = record { kept = falls_same s }
+keeps_nothing s = record { preserved = falls_same s }
 
 pub keeps_after : (s : SavedValue) (taken : List Message) (packets : List (ℕ × Message)) (c : Change) →
     UndoesNothing s c → UndoesNothing s (change_after taken packets c)
-keeps_after s taken packets c k = record { kept = k.kept }
+keeps_after s taken packets c k = record { preserved = k.preserved }
 
 -- from another view
 pub keeps_from : (view : ℕ) (s : SavedValue) (c : Change) → s.view ≤ view → UndoesNothing (in_view view s) c →
     UndoesNothing s c
-keeps_from view s c fresh k = record { kept = falls_trans s (in_view view s) c.saved (falls_view view s fresh) k.kept }
+keeps_from view s c fresh k = record
+    { preserved = falls_trans s (in_view view s) c.saved (falls_view view s fresh) k.preserved }
 
 pub keeps_adoption : (i n : ℕ) (s : SavedValue) (view commit : ℕ) (log : List Entry) → s.normal ≤ s.view →
     s.view ≤ view → keeps_committed s log ≡ true → UndoesNothing s (adoption i n s view commit log)
 unfolding adoption
-keeps_adoption i n s view commit log order fresh fit = record { kept = falls_log view log commit s order fresh fit }
+keeps_adoption i n s view commit log order fresh fit =
+    record { preserved = falls_log view log commit s order fresh fit }

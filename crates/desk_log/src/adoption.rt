@@ -27,7 +27,7 @@ pub fn adopt_log(
     requires most_view { view ≤ LAST_VIEW }
     requires prefix { base ≤ length saved.old.log }
     requires room { base + length entries ≤ LOG_ENTRIES }
-    requires kept { saved.old.commit ≤ base + length entries }
+    requires preserved { saved.old.commit ≤ base + length entries }
     ensures change { IfOk result (λ sending. Makes
         (adoption member.id member.n saved.old view commit (take base saved.old.log ++ entries))
         saved.new sending.packets.items sending.answers) }

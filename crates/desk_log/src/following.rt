@@ -10,7 +10,7 @@ use desk_types::{Entry, WantOfMemory};
 fn append_copies(log: &mut Log, entries: &[Entry]) -> Result<(), WantOfMemory>
     requires room { length log.old + length entries.now ≤ LOG_ENTRIES }
     ensures appended { OnOk result (log.new ≡ log.old ++ entries.now) }
-    ensures kept { OnErr result ((more : _) × (log.new ≡ log.old ++ more)) }
+    ensures preserved { OnErr result ((more : _) × (log.new ≡ log.old ++ more)) }
     ensures longer { length log.old ≤ length log.new }
     ensures most { length log.new ≤ LOG_ENTRIES }
 {
@@ -30,13 +30,13 @@ impl Log {
         requires within { (front ≤ length self.old) × (front ≤ length other.now) }
         requires same { take front self.old ≡ take front other.now }
         ensures ok { OnOk result (self.new ≡ other.now) }
-        ensures kept { OnErr result ((more : _) × (self.new ≡ self.old ++ more)) }
+        ensures preserved { OnErr result ((more : _) × (self.new ≡ self.old ++ more)) }
         ensures longer { OnErr result (length self.old ≤ length self.new) }
         ensures most { length self.new ≤ LOG_ENTRIES }
     {
-        let behind = &other.entries()[front as usize..];
+        let after = &other.entries()[front as usize..];
         if front == self.len() {
-            return append_copies(self, behind);
+            return append_copies(self, after);
         }
         let more = other.copy_after(front)?;
         self.replace_after(front, more)

@@ -50,7 +50,7 @@ impl LatestPlaces {
     pub(crate) fn reserve(&mut self, client: ClientId) -> Result<(), WantOfMemory>
         ensures same { (c : ℕ) → place_of self.new c ≡ place_of self.old c }
         ensures room { OnOk result (HasRoom self.new client) }
-        ensures kept { KeepsRoom self.old self.new }
+        ensures preserved { KeepsRoom self.old self.new }
     {
         let _place = self.places.entry(client.get())?.or_insert(None);
         Ok(())
@@ -60,7 +60,7 @@ impl LatestPlaces {
     pub(crate) fn reserve_all(&mut self, entries: &[Entry]) -> Result<(), WantOfMemory>
         ensures same { (c : ℕ) → place_of self.new c ≡ place_of self.old c }
         ensures room { OnOk result (HasRoomFor entries.now self.new) }
-        ensures kept { KeepsRoom self.old self.new }
+        ensures preserved { KeepsRoom self.old self.new }
         ensures nothing { entries.now ≡ [] → IsOk result }
     {
         for entry in entries {
@@ -73,7 +73,7 @@ impl LatestPlaces {
     pub(crate) fn set(&mut self, client: ClientId, place: u64)
         requires { HasRoom self.old client }
         ensures place { (c : ℕ) → place_of self.new c ≡ (if client == c then Some place else place_of self.old c) }
-        ensures kept { KeepsRoom self.old self.new }
+        ensures preserved { KeepsRoom self.old self.new }
     {
         if let Some(latest) = self.places.get_mut(&client.get()) {
             *latest = Some(place);
@@ -94,7 +94,7 @@ impl LatestPlaces {
     /// Takes the place of a client away, and leaves the room for it.
     fn forget(&mut self, client: ClientId)
         ensures place { (c : ℕ) → place_of self.new c ≡ (if client == c then None else place_of self.old c) }
-        ensures kept { KeepsRoom self.old self.new }
+        ensures preserved { KeepsRoom self.old self.new }
     {
         if let Some(latest) = self.places.get_mut(&client.get()) {
             *latest = None;
@@ -105,7 +105,7 @@ impl LatestPlaces {
     pub(crate) fn forget_all(&mut self, entries: &[Entry])
         requires { HasLatest entries.now self.old }
         ensures none { HasLatest [] self.new }
-        ensures kept { KeepsRoom self.old self.new }
+        ensures preserved { KeepsRoom self.old self.new }
     {
         for entry in entries {
             self.forget(entry.client);

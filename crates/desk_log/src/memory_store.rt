@@ -48,7 +48,7 @@ impl StateStore for MemoryStore {
         }
     }
 
-    ghost kept_still = { λ _. tt };
+    ghost preserved_still = { λ _. tt };
 
-    ghost kept_further = { λ _ _ _ _ _. tt };
+    ghost preserved_further = { λ _ _ _ _ _. tt };
 }

@@ -137,7 +137,7 @@ impl Saved {
 
     /// Whether the committed entries are the first ones of a log, which is that of the first `base` entries followed by
     /// the given ones.
-    #[tactic(auto, using(crate::proofs::JoinedLogs::kept_within))]
+    #[tactic(auto, using(crate::proofs::JoinedLogs::preserved_within))]
     pub fn keeps_committed(&self, base: u64, entries: &[Entry]) -> bool
         requires { base ≤ self.now.commit }
         ensures value { result ≡ keeps_committed self.now (take base self.now.log ++ entries.now) }
@@ -160,7 +160,7 @@ impl Saved {
         requires most_view { view ≤ LAST_VIEW }
         requires prefix { base ≤ length self.old.log }
         requires room { base + length entries.items ≤ LOG_ENTRIES }
-        requires kept { self.old.commit ≤ base + length entries.items }
+        requires preserved { self.old.commit ≤ base + length entries.items }
         ensures ok { OnOk result (self.new ≡ with_log view (take base self.old.log ++ entries.items) commit self.old) }
         ensures err { OnErr result (self.new ≡ self.old) }
     {
@@ -214,7 +214,7 @@ impl Saved {
         requires within { (known ≤ length self.old.log) × (known ≤ length other.now.log) }
         requires same { take known self.old.log ≡ take known other.now.log }
         ensures ok { OnOk result (self.new ≡ other.now) }
-        ensures kept { OnErr result ((more : _) × (self.new ≡ record self.old { log = self.old.log ++ more })) }
+        ensures preserved { OnErr result ((more : _) × (self.new ≡ record self.old { log = self.old.log ++ more })) }
     {
         let common = self.log.same_front_after(&other.log, known);
         self.log.follow(&other.log, common)?;

@@ -34,13 +34,13 @@ pub trait StateStore {
         requires same { take known (last self.old).log ≡ take known saved.now.log }
         ensures last { OnOk result (last self.new ≡ saved.now) }
         ensures running { OnOk result (stopped self.new ≡ false) }
-        ensures kept { OnOk result (keeps self.old self.new) }
+        ensures preserved { OnOk result (keeps self.old self.new) }
         ensures fault { IfErr result (λ r. r ≡ refusals.StoreFault) }
         ensures failed { OnErr result (leaves self.old saved.now self.new) };
 
     /// What has to stand, stands where nothing is done.
-    ghost kept_still: { (store : Self) → keeps store store };
+    ghost preserved_still: { (store : Self) → keeps store store };
 
     /// And over two parts of a time where it stands over each.
-    ghost kept_further: { (old mid new : Self) → keeps old mid → keeps mid new → keeps old new };
+    ghost preserved_further: { (old mid new : Self) → keeps old mid → keeps mid new → keeps old new };
 }

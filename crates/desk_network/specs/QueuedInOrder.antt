@@ -24,23 +24,24 @@ same_then (Some sender) (Some mid) None one more = absurd more
 same_then (Some sender) (Some mid) (Some new) one more = (more.0 ∙ one.0, more.1 ∙ one.1)
 
 -- some of these, and then some of others
-with_kept : (kept : List Bool) (more some all : List Message) → IsSubsequence some all → length kept ≡ length more →
-    IsSubsequence (some ++ items_where_true kept more) (all ++ more)
-with_kept [] [] some all h e = rw (append-nil some, append-nil all) h
-with_kept [] (m ∷ more) some all h e = absurd (let no : ⊥ = omega (arith, e) in no)
-with_kept (k ∷ kept) [] some all h e = absurd (let no : ⊥ = omega (arith, e) in no)
-with_kept (true ∷ kept) (m ∷ more) some all h e =
-    subst (λ t. IsSubsequence t (all ++ m ∷ more)) (append_assoc some (m ∷ []) (items_where_true kept more))
-    (subst (IsSubsequence ((some ++ m ∷ []) ++ items_where_true kept more)) (append_assoc all (m ∷ []) more)
-    (with_kept kept more (some ++ m ∷ []) (all ++ m ∷ []) (with_last some all m h) (omega (arith, e))))
-with_kept (false ∷ kept) (m ∷ more) some all h e =
-    subst (IsSubsequence (some ++ items_where_true kept more)) (append_assoc all (m ∷ []) more)
-    (with_kept kept more some (all ++ m ∷ []) (without_last some all m h) (omega (arith, e)))
+with_chosen : (chosen : List Bool) (more some all : List Message) → IsSubsequence some all →
+    length chosen ≡ length more →
+    IsSubsequence (some ++ items_where_true chosen more) (all ++ more)
+with_chosen [] [] some all h e = rw (append-nil some, append-nil all) h
+with_chosen [] (m ∷ more) some all h e = absurd (let no : ⊥ = omega (arith, e) in no)
+with_chosen (k ∷ chosen) [] some all h e = absurd (let no : ⊥ = omega (arith, e) in no)
+with_chosen (true ∷ chosen) (m ∷ more) some all h e =
+    subst (λ t. IsSubsequence t (all ++ m ∷ more)) (append_assoc some (m ∷ []) (items_where_true chosen more))
+    (subst (IsSubsequence ((some ++ m ∷ []) ++ items_where_true chosen more)) (append_assoc all (m ∷ []) more)
+    (with_chosen chosen more (some ++ m ∷ []) (all ++ m ∷ []) (with_last some all m h) (omega (arith, e))))
+with_chosen (false ∷ chosen) (m ∷ more) some all h e =
+    subst (IsSubsequence (some ++ items_where_true chosen more)) (append_assoc all (m ∷ []) more)
+    (with_chosen chosen more some (all ++ m ∷ []) (without_last some all m h) (omega (arith, e)))
 
 with_others : (some all few more : List Message) → IsSubsequence some all → IsSubsequence few more →
     IsSubsequence (some ++ few) (all ++ more)
 with_others some all few more h k =
-    subst (λ t. IsSubsequence (some ++ t) (all ++ more)) (sym k.2) (with_kept k.0 more some all h k.1)
+    subst (λ t. IsSubsequence (some ++ t) (all ++ more)) (sym k.2) (with_chosen k.0 more some all h k.1)
 
 -- the packets for a node, of some and then others
 packets_then : (node : ℕ) (first last : List (ℕ × Message)) →

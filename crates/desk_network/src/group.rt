@@ -73,12 +73,12 @@ fn start_nodes<R: NodeRuntime>(
 fn join_nodes<R: Threads>(
     rt: &R,
     keepers: Vec<KeeperThread<MemoryStore>>,
-    told: Result<(), Refusal>,
+    reported: Result<(), Refusal>,
 ) -> Result<(), Refusal>
-    requires told { IfErr told IsServingEnd }
+    requires reported { IfErr reported IsServingEnd }
     ensures fault { IfErr result IsServingEnd }
 {
-    let mut outcome = told;
+    let mut outcome = reported;
     for keeper in keepers {
         let NodeEnd {
             store,
@@ -109,9 +109,9 @@ where
     let input = ends.share()?;
     let keepers = start_nodes(rt, alloc, setup, &ends)?;
     end_with_input(rt, input)?;
-    let told = tell_ready(writer);
-    if told.is_err() {
+    let reported = tell_ready(writer);
+    if reported.is_err() {
         ends.set();
     }
-    join_nodes(rt, keepers, told)
+    join_nodes(rt, keepers, reported)
 }

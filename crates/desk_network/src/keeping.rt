@@ -81,9 +81,9 @@ fn keep<B: BoardName, S: StateStore + Drop, R: Wait + Drop>(
 {
     let mut out = out;
     let (keeper, outcome) = guard.into_keeper().run_turns(rt, TURN_ITEMS, &mut out);
-    let (taker, kept, store) = keeper.end(rt);
+    let (taker, preserved, store) = keeper.end(rt);
     drop(taker);
-    drop(kept);
+    drop(preserved);
     NodeEnd {
         store: Some(store),
         outcome,

@@ -44,7 +44,7 @@ fn start_sessions<B: BoardName + Send + Sync + 'static, R: NodeRuntime>(
         };
         let wire = Wire {
             sender,
-            told: KeeperWords::new(words),
+            words: KeeperWords::new(words),
         };
         start_session(rt, alloc, ports, wire, reader)?;
     }

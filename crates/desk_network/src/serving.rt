@@ -38,7 +38,7 @@ impl EndFlags {
 struct ServedNode<S: StateStore> {
     keeper: KeeperThread<S>,
     /// Whether `ready` was told.
-    told: Result<(), Refusal>,
+    reported: Result<(), Refusal>,
 }
 
 /// Tells the writer that all ports are bound.
@@ -64,7 +64,7 @@ where
     requires group { IsGroup owner.n }
     requires id { owner.id < owner.n }
     requires running { S.stopped store ≡ false }
-    ensures told { IfOk result (λ served. IfErr served.told (λ r. r ≡ refusals.WriteFault)) }
+    ensures reported { IfOk result (λ served. IfErr served.reported (λ r. r ≡ refusals.WriteFault)) }
 {
     let Ok(EndFlags { own, timer, input }) = EndFlags::new(alloc) else {
         drop(store);
@@ -79,11 +79,11 @@ where
     };
     let keeper = start_node(rt, alloc, start)?;
     end_with_input(rt, input)?;
-    let told = tell_ready(writer);
-    if told.is_err() {
+    let reported = tell_ready(writer);
+    if reported.is_err() {
         own.set();
     }
-    Ok(ServedNode { keeper, told })
+    Ok(ServedNode { keeper, reported })
 }
 
 /// Serves as the node whose state a store keeps, until the standard input ends or the store fails; `ready` is written
@@ -111,11 +111,11 @@ where
         ports,
     } = setup;
     match start_serving(rt, alloc, writer, owner, address, ports, store) {
-        Ok(ServedNode { keeper, told }) => {
+        Ok(ServedNode { keeper, reported }) => {
             let NodeEnd { store, outcome } = keeper.join(rt);
             NodeEnd {
                 store,
-                outcome: outcome.and(told),
+                outcome: outcome.and(reported),
             }
         }
         Err(WantOfMemory) => NodeEnd {

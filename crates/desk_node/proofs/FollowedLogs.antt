@@ -55,9 +55,9 @@ follows_more domain o j k xs l f =
     follows_prefix domain o (take j xs) (take k xs) (take_take-prefix j k xs xs l (prefix_refl xs)) f
 
 -- A board that follows the committed entries does so after a step that undoes nothing.
-pub follows_kept : (domain : List ℕ) (o : Option BoardValue) (s t : SavedValue) → NeverFalls s t →
+pub follows_preserved : (domain : List ℕ) (o : Option BoardValue) (s t : SavedValue) → NeverFalls s t →
     FollowsLog domain o (take s.commit s.log) → FollowsLog domain o (take t.commit t.log)
-follows_kept domain o s t k f =
+follows_preserved domain o s t k f =
     follows_prefix domain o (take s.commit s.log) (take t.commit t.log) k.committed f
 
 -- A board that has executed so many entries of a log follows these.

@@ -22,17 +22,18 @@ use Rattle.desk_view_change.proofs.Keeps as view_change
 keeps_within : (i n : ℕ) (s : SavedValue) (h : Heard) (p : Message) → s.normal ≤ s.view →
     UndoesNothing s (on_packet_within i n s h p)
 unfolding on_packet_within
-keeps_within i n s h (Prepare from w m c e) order = record { kept = normal.prepare_keeps i n s from w m c e }
-keeps_within i n s h (PrepareOk from w m) order = record { kept = normal.prepare_ok_keeps i n s h.places from w m }
-keeps_within i n s h (Commit from w c) order = record { kept = normal.commit_keeps i n s from w c }
+keeps_within i n s h (Prepare from w m c e) order = record { preserved = normal.prepare_keeps i n s from w m c e }
+keeps_within i n s h (PrepareOk from w m) order = record { preserved = normal.prepare_ok_keeps i n s h.places from w m }
+keeps_within i n s h (Commit from w c) order = record { preserved = normal.commit_keeps i n s from w c }
 keeps_within i n s h (StartViewChange from w) order =
-    record { kept = view_change.start_view_change_keeps i n s h.view_change from w order }
+    record { preserved = view_change.start_view_change_keeps i n s h.view_change from w order }
 keeps_within i n s h (DoViewChange from w u c l) order =
-    record { kept = view_change.do_view_change_keeps i n s h.view_change from w u c l order }
+    record { preserved = view_change.do_view_change_keeps i n s h.view_change from w u c l order }
 keeps_within i n s h (StartView from w c l) order =
-    record { kept = view_change.start_view_keeps i n s from w c l order }
-keeps_within i n s h (GetState from w b) order = record { kept = transfer.get_state_keeps i s from w b }
-keeps_within i n s h (NewState from w b c es) order = record { kept = transfer.new_state_keeps i n s w b c es order }
+    record { preserved = view_change.start_view_keeps i n s from w c l order }
+keeps_within i n s h (GetState from w b) order = record { preserved = transfer.get_state_keeps i s from w b }
+keeps_within i n s h (NewState from w b c es) order =
+    record { preserved = transfer.new_state_keeps i n s w b c es order }
 
 keeps_packet : (i n : ℕ) (s : SavedValue) (h : Heard) (p : Message) → s.normal ≤ s.view →
     UndoesNothing s (on_packet i n s h p)
@@ -43,15 +44,15 @@ keeps_resend : (i n : ℕ) (s : SavedValue) (h : Heard) → UndoesNothing s (on_
 unfolding on_resend
 keeps_resend i n s h =
     keeps_if (is_normal s)
-    (λ _. record { kept = normal.resend_keeps i n s })
-    (λ _. record { kept = view_change.resend_keeps i n s h.view_change.askers })
+    (λ _. record { preserved = normal.resend_keeps i n s })
+    (λ _. record { preserved = view_change.resend_keeps i n s h.view_change.askers })
 
 step_keeps : (node : NodeValue) (event : Event) → node.saved.normal ≤ node.saved.view →
     NeverFalls node.saved (held_step node event).saved
 unfolding held_step
 step_keeps node (events.Request e) order = normal.request_keeps node.id node.n node.saved e
-step_keeps node (events.Packet p) order = (keeps_packet node.id node.n node.saved _ p order).kept
-step_keeps node events.Resend order = (keeps_resend node.id node.n node.saved node.heard).kept
+step_keeps node (events.Packet p) order = (keeps_packet node.id node.n node.saved _ p order).preserved
+step_keeps node events.Resend order = (keeps_resend node.id node.n node.saved node.heard).preserved
 step_keeps node events.Suspect order = view_change.suspect_keeps node.id node.n node.saved
 step_keeps node events.Restart order = falls_same node.saved
 

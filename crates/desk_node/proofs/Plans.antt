@@ -216,17 +216,17 @@ follows_started domain domain-new o w s t start d e f =
     by_start None g = g
     by_start (Some a) g = g
 
-start_answerable : (w : ℕ) (s : SavedValue) (start : Option Start) (told : Answers) →
-    IsAnswerable (saved_with_start (in_view w s) start).log (saved_with_start (in_view w s) start).commit told →
-    IsAnswerable (saved_with_start s start).log (saved_with_start s start).commit told
-start_answerable w s None told a = a
-start_answerable w s (Some start) told a = a
+start_answerable : (w : ℕ) (s : SavedValue) (start : Option Start) (reported : Answers) →
+    IsAnswerable (saved_with_start (in_view w s) start).log (saved_with_start (in_view w s) start).commit reported →
+    IsAnswerable (saved_with_start s start).log (saved_with_start s start).commit reported
+start_answerable w s None reported a = a
+start_answerable w s (Some start) reported a = a
 
 view_ready : (c : Change) (s : SavedValue) (plan : ViewChangePlan) → NeverFalls s c.saved → IsChanged c →
     IsPlan c s plan → IsViewReady s plan
 view_ready c s plan k q p = record {
   feasible = p.feasible;
-  kept = subst (λ (t : SavedValue). NeverFalls s t) (sym p.saved_is) k;
+  preserved = subst (λ (t : SavedValue). NeverFalls s t) (sym p.saved_is) k;
   answerable = start_answerable plan.view s plan.start plan.sending.answers
       (subst (λ (a : Answers). IsAnswerable (saved_by_plan s plan).log (saved_by_plan s plan).commit a)
       (sym p.answers_are)

@@ -69,25 +69,25 @@ request_answered i n s e = answered_if (leads i n s)
     (λ _. record { taken_is = refl; view_is = refl; answerable = tt; unchanged = λ no. refl })
 
 -- The board of the committed entries has the answer.
-pub request_answerable : (i n : ℕ) (s t : SavedValue) (e : Entry) (packets : List (ℕ × Message)) (told : Answers)
-    (commit : ℕ) (log : List Entry) → commit ≡ t.commit → log ≡ t.log → Makes (on_request i n s e) t packets told →
-    IsAnswerable log commit told
-request_answerable i n s t e packets told commit log commit_is log_is made = rw (commit_is, log_is)
-    (subst (λ (x : SavedValue). IsAnswerable x.log x.commit told) (sym made.saved_is)
+pub request_answerable : (i n : ℕ) (s t : SavedValue) (e : Entry) (packets : List (ℕ × Message)) (reported : Answers)
+    (commit : ℕ) (log : List Entry) → commit ≡ t.commit → log ≡ t.log → Makes (on_request i n s e) t packets reported →
+    IsAnswerable log commit reported
+request_answerable i n s t e packets reported commit log commit_is log_is made = rw (commit_is, log_is)
+    (subst (λ (x : SavedValue). IsAnswerable x.log x.commit reported) (sym made.saved_is)
     (subst (λ (a : Answers). IsAnswerable (on_request i n s e).saved.log (on_request i n s e).saved.commit a)
     (sym made.answers_are) (request_answered i n s e).answerable))
 
 -- Where there is an answer nothing changes.
-pub request_unchanged : (i n : ℕ) (s t : SavedValue) (e : Entry) (packets : List (ℕ × Message)) (told : Answers) →
-    Makes (on_request i n s e) t packets told → told ≢ Nothing → t ≡ s
-request_unchanged i n s t e packets told made some =
+pub request_unchanged : (i n : ℕ) (s t : SavedValue) (e : Entry) (packets : List (ℕ × Message)) (reported : Answers) →
+    Makes (on_request i n s e) t packets reported → reported ≢ Nothing → t ≡ s
+request_unchanged i n s t e packets reported made some =
     made.saved_is ∙ (request_answered i n s e).unchanged (λ q. some (made.answers_are ∙ q))
 
-did_request : (old : NodeValue) (e : Entry) (new : NodeValue) (packets : List (ℕ × Message)) (told : Answers)
-    (answers : List Outcome) → Makes (on_request old.id old.n old.saved e) new.saved packets told →
-    new.heard ≡ old.heard → answers ≡ outcomes_of old.domain new.saved.log told →
+did_request : (old : NodeValue) (e : Entry) (new : NodeValue) (packets : List (ℕ × Message)) (reported : Answers)
+    (answers : List Outcome) → Makes (on_request old.id old.n old.saved e) new.saved packets reported →
+    new.heard ≡ old.heard → answers ≡ outcomes_of old.domain new.saved.log reported →
     DoesRule old (on_request old.id old.n old.saved e) new packets answers
-did_request old e new packets told answers made heard told_is =
+did_request old e new packets reported answers made heard announced_is =
     let c : Change = on_request old.id old.n old.saved e in
     let a : IsAnswered old.saved c = request_answered old.id old.n old.saved e in
     record {
@@ -97,23 +97,25 @@ did_request old e new packets told answers made heard told_is =
           ∙ ap (λ ps. heard_after c.saved.view ps (heard_at old.n old.saved.view c.saved.view old.heard))
           (sym a.taken_is)));
       packets_are = made.packets_are;
-      answers_are = told_is ∙ (ap (λ (s : SavedValue). outcomes_of old.domain s.log told) made.saved_is
+      answers_are = announced_is ∙ (ap (λ (s : SavedValue). outcomes_of old.domain s.log reported) made.saved_is
           ∙ ap (outcomes_of old.domain c.saved.log) made.answers_are);
     }
 
 -- The same, by equal parts of the node.
 pub did_request_by : (old : NodeValue) (domain : List ℕ) (i n : ℕ) (s : SavedValue) (e : Entry) (new : NodeValue)
-    (packets : List (ℕ × Message)) (told : Answers) (log : List Entry) (answers : List Outcome) → i ≡ old.id →
-    n ≡ old.n → s ≡ old.saved → domain ≡ old.domain → Makes (on_request i n s e) new.saved packets told →
-    new.heard ≡ old.heard → log ≡ new.saved.log → answers ≡ outcomes_of domain log told →
+    (packets : List (ℕ × Message)) (reported : Answers) (log : List Entry) (answers : List Outcome) → i ≡ old.id →
+    n ≡ old.n → s ≡ old.saved → domain ≡ old.domain → Makes (on_request i n s e) new.saved packets reported →
+    new.heard ≡ old.heard → log ≡ new.saved.log → answers ≡ outcomes_of domain log reported →
     DoesRule old (on_request old.id old.n old.saved e) new packets answers
-did_request_by old domain i n s e new packets told log answers id_is n_is saved_is domain_is made heard log_is told_is =
-    did_request old e new packets told answers
-    (subst (λ (x : ℕ). Makes (on_request x old.n old.saved e) new.saved packets told) id_is
-    (subst (λ (x : ℕ). Makes (on_request i x old.saved e) new.saved packets told) n_is
-    (subst (λ (x : SavedValue). Makes (on_request i n x e) new.saved packets told) saved_is made)))
+did_request_by old domain i n s e new packets reported log answers id_is n_is saved_is domain_is made heard log_is
+    announced_is =
+    did_request old e new packets reported answers
+    (subst (λ (x : ℕ). Makes (on_request x old.n old.saved e) new.saved packets reported) id_is
+    (subst (λ (x : ℕ). Makes (on_request i x old.saved e) new.saved packets reported) n_is
+    (subst (λ (x : SavedValue). Makes (on_request i n x e) new.saved packets reported) saved_is made)))
     heard
-    (told_is ∙ (ap (λ d. outcomes_of d log told) domain_is ∙ ap (λ l. outcomes_of old.domain l told) log_is))
+    (announced_is ∙ (ap (λ d. outcomes_of d log reported) domain_is ∙ ap (λ l. outcomes_of old.domain l reported)
+    log_is))
 
 -- A node with the same parts is the same.
 pub node_same : (old : NodeValue) (domain domain-new : List ℕ) (i n : ℕ) (s t : SavedValue) (heard : Heard) →

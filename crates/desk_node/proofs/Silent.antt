@@ -26,11 +26,11 @@ pub record IsSilent (c : Change) : Type 0 where
   pub answers_are : c.answers ≡ Nothing
 
 -- A node that did a silent rule, and kept of what it heard what is of its view.
-pub did_silent : (old : NodeValue) (c : Change) (new : NodeValue) (packets : List (ℕ × Message)) (told : Answers)
-    (answers : List Outcome) → IsSilent c → Makes c new.saved packets told →
+pub did_silent : (old : NodeValue) (c : Change) (new : NodeValue) (packets : List (ℕ × Message)) (reported : Answers)
+    (answers : List Outcome) → IsSilent c → Makes c new.saved packets reported →
     new.heard ≡ heard_at old.n old.saved.view new.saved.view old.heard → answers ≡ [] →
     DoesRule old c new packets answers
-did_silent old c new packets told answers q made heard none = record {
+did_silent old c new packets reported answers q made heard none = record {
   saved_is = made.saved_is;
   heard_is = heard ∙ (ap (λ (s : SavedValue). heard_at old.n old.saved.view s.view old.heard) made.saved_is
       ∙ ap (λ ps. heard_after c.saved.view ps (heard_at old.n old.saved.view c.saved.view old.heard)) (sym q.taken_is));
@@ -47,11 +47,11 @@ pub heard_here : (n v : ℕ) (h : Heard) → h ≡ heard_at n v v h
 heard_here n v h = here_case n v h (ltb v v) refl
 
 -- The same, of a rule that leaves the node as it is.
-pub did_plain : (node : NodeValue) (c : Change) (packets : List (ℕ × Message)) (told : Answers)
-    (answers : List Outcome) → IsSilent c → Makes c node.saved packets told → answers ≡ [] →
+pub did_plain : (node : NodeValue) (c : Change) (packets : List (ℕ × Message)) (reported : Answers)
+    (answers : List Outcome) → IsSilent c → Makes c node.saved packets reported → answers ≡ [] →
     DoesRule node c node packets answers
-did_plain node c packets told answers q made none =
-    did_silent node c node packets told answers q made (heard_here node.n node.saved.view node.heard) none
+did_plain node c packets reported answers q made none =
+    did_silent node c node packets reported answers q made (heard_here node.n node.saved.view node.heard) none
 
 silent_if : (b : Bool) {x y : Change} → IsSilent x → IsSilent y → IsSilent (cond b x y)
 silent_if b {x} {y} h k = cond_both b x y IsSilent (λ _. h) (λ _. k)

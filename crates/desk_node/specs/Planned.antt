@@ -29,7 +29,7 @@ commit_step node j place plan = record {
 -- its answers.
 pub record IsViewReady (s : SavedValue) (plan : ViewChangePlan) : Type 0 where
   pub feasible : IsFeasible s plan
-  pub kept : NeverFalls s (saved_by_plan s plan)
+  pub preserved : NeverFalls s (saved_by_plan s plan)
   pub answerable : IsAnswerable (saved_with_start s plan.start).log (saved_with_start s plan.start).commit
       plan.sending.answers
 

@@ -13,9 +13,9 @@ use Rattle.desk_output.specs.Prefixes.{AppendsPrefix}
 use Rattle.desk_output.specs.Telling.{printed_line, TellsFirst, TellsLine}
 
 -- a prefix of the last of two texts is written, and others were to follow
-prefix_behind : (a b c : Option (List ℕ)) (xs ys zs : List ℕ) → Appends a b xs → AppendsPrefix b c ys →
+prefix_after_line : (a b c : Option (List ℕ)) (xs ys zs : List ℕ) → Appends a b xs → AppendsPrefix b c ys →
     AppendsPrefix a c ((xs ++ ys) ++ zs)
-prefix_behind a b c xs ys zs p q = (
+prefix_after_line a b c xs ys zs p q = (
   xs ++ q.0,
   q.1 ++ zs,
   append_assoc xs ys zs ∙ ap (λ t. xs ++ (t ++ zs)) q.2 ∙ ap (λ t. xs ++ t) (append_assoc q.0 q.1 zs)
@@ -35,7 +35,7 @@ wrote_part f a b c xs i d text within is h k =
     ap (flat_map f) (sym (take-append-drop (i + 1) xs))
     ∙ flat_map-append f (take (i + 1) xs) (drop (i + 1) xs)
     ∙ ap (λ t. t ++ flat_map f (drop (i + 1) xs)) one_more in
-    subst (AppendsPrefix a c) (sym whole) (prefix_behind a b c _ text _ h k)
+    subst (AppendsPrefix a c) (sym whole) (prefix_after_line a b c _ text _ h k)
 
 -- all texts of a list are written
 pub wrote_all : {A : Type 0} (f : A → List ℕ) (a b : Option (List ℕ)) (xs : List A) (i : ℕ) → length xs ≤ i →
@@ -61,11 +61,11 @@ prefix_after a b c xs ys p q = (
 pub prefix_longer : (a b : Option (List ℕ)) (xs ys : List ℕ) → AppendsPrefix a b xs → AppendsPrefix a b (xs ++ ys)
 prefix_longer a b xs ys q = (q.0, q.1 ++ ys, ap (λ t. t ++ ys) q.2 ∙ append_assoc q.0 q.1 ys, q.3)
 
-pub told_is : (refusal : Refusal) (n : ℕ) (name : List ℕ) → n ≡ refusal_number refusal → name ≡ name_of refusal →
+pub announced_is : (refusal : Refusal) (n : ℕ) (name : List ℕ) → n ≡ refusal_number refusal → name ≡ name_of refusal →
     codes "desk: " ++ (decimal n ++ (codes " " ++ (name ++ codes "\n"))) ≡ printed_line refusal
 unfolding printed_line
-told_is refusal n name n_is name_is = rw (n_is, name_is) refl
+announced_is refusal n name n_is name_is = rw (n_is, name_is) refl
 
 -- a line that is told alone is told first
-pub told_alone : (a b : Option (List ℕ)) (refusal : Refusal) → TellsLine a b refusal → TellsFirst a b refusal
-told_alone a b refusal printed = ([], prefix_longer a b _ [] printed)
+pub reported_alone : (a b : Option (List ℕ)) (refusal : Refusal) → TellsLine a b refusal → TellsFirst a b refusal
+reported_alone a b refusal printed = ([], prefix_longer a b _ [] printed)

@@ -44,7 +44,7 @@ impl ReadCount {
         ensures within { IfOk result (λ count. count ≤ length room.new) }
         ensures end { IfOk result (λ count. count ≡ 0 → IsAtEnd (R.remaining source.new)) }
         ensures same_room { length room.new ≡ length room.old }
-        ensures kept { OnErr result (Keeps (R.remaining source.old) (R.remaining source.new)) }
+        ensures preserved { OnErr result (Keeps (R.remaining source.old) (R.remaining source.new)) }
         ensures fault { IfErr result (λ r. r ≡ refusals.ReadFault) }
         ensures counted { self.old < STREAM_READS → self.new ≡ self.old + 1 }
         // A stream is read so often at most.

@@ -18,9 +18,9 @@ use Rattle.desk_eido.specs.ReplyLine.{listed_incident_members, listed_unit_membe
 use Rattle.desk_eido.specs.ReplyLine.{optional_member, optional_rows, optional_texts}
 use Rattle.desk_follow.specs.Places.{number_before, place_by_value}
 use Rattle.desk_follow.proofs.Commas.{split_number}
-use Rattle.desk_follow.proofs.Members.{told}
+use Rattle.desk_follow.proofs.Members.{reported}
 use Rattle.desk_follow.proofs.Placed.{number_is}
-use Rattle.desk_page.specs.Told.{place_listed, place_shown, place_in_reply}
+use Rattle.desk_page.specs.Reported.{place_listed, place_shown, place_in_reply}
 use Rattle.desk_page.proofs.Quiet.{quiet, quiet-append, name_fine, names_fine, items_fine, members_fine}
 use Rattle.desk_page.proofs.Quiet.{data_quiet, decimal_calm}
 use Rattle.desk_page.proofs.Skipped.{skipped}
@@ -93,26 +93,26 @@ next_part n = codes ",\"next\":" ++ decimal n
 -- what a list has behind its place
 abbrev rest_of : ℕ → Option (List ListedUnit) → List ℕ
 rest_of client units =
-    told ((codes "session", count client)
+    reported ((codes "session", count client)
     ∷ optional_rows (codes "units") (option_map (map (λ l. json_members (listed_unit_members l))) units))
 
 -- and from the word that it is answered by
 abbrev placed : ℕ → ℕ → Option (List ListedUnit) → List ℕ
 placed client at units = codes "\"ok\":\"list\",\"place\":" ++ (decimal at ++ 44 ∷ rest_of client units)
 
-told_last : (client at : ℕ) (ls : List ListedIncident) (units : Option (List ListedUnit)) →
+reported_last : (client at : ℕ) (ls : List ListedIncident) (units : Option (List ListedUnit)) →
     line_of (outcomes.Board client (shows.List at ls None units))
     ≡ codes "{\"incidents\":" ++ (rows_text ls ++ 44 ∷ placed client at units)
 unfolding escape_byte
-told_last client at ls units =
+reported_last client at ls units =
     ap (λ l. codes "{\"incidents\":" ++ l) (append_assoc (rows_text ls) _ (10 ∷ [])
     ∙ ap (λ l. rows_text ls ++ 44 ∷ (codes "\"ok\":\"list\",\"place\":" ++ l)) (append_assoc (decimal at) _ (10 ∷ [])))
 
-told_part : (client at n : ℕ) (ls : List ListedIncident) (units : Option (List ListedUnit)) →
+reported_part : (client at n : ℕ) (ls : List ListedIncident) (units : Option (List ListedUnit)) →
     line_of (outcomes.Board client (shows.List at ls (Some n) units))
     ≡ codes "{\"incidents\":" ++ ((rows_text ls ++ next_part n) ++ 44 ∷ placed client at units)
 unfolding escape_byte
-told_part client at n ls units =
+reported_part client at n ls units =
     ap (λ l. codes "{\"incidents\":" ++ l) (append_assoc (rows_text ls) _ (10 ∷ [])
     ∙ ap (λ l. rows_text ls ++ (codes ",\"next\":" ++ l)) (append_assoc (decimal n) _ (10 ∷ [])
     ∙ ap (λ l. decimal n ++ 44 ∷ (codes "\"ok\":\"list\",\"place\":" ++ l)) (append_assoc (decimal at) _ (10 ∷ [])))
@@ -127,11 +127,11 @@ part_quiet ls n =
     (quiet-append 0 (rows_text ls) (next_part n) (rows_quiet ls) (decimal_calm n).0) refl
 
 -- the place after text before which the mark does not stand
-place_behind : (client at : ℕ) (text : List ℕ) (units : Option (List ListedUnit)) → at < 2 ^ 64 →
+place_after : (client at : ℕ) (text : List ℕ) (units : Option (List ListedUnit)) → at < 2 ^ 64 →
     quiet 0 (text ++ 44 ∷ []) ≡ true →
     place_listed (codes "{\"incidents\":" ++ (text ++ 44 ∷ placed client at units)) ≡ Some at
 unfolding place_in_reply
-place_behind client at text units fits calm =
+place_after client at text units fits calm =
     ap place_by_value
     (skipped (codes "\"list\",\"place\":") 0 (codes "{\"incidents\":" ++ text) (placed client at units) calm)
     ∙ ap number_before (split_number at (rest_of client units)) ∙ number_is at fits
@@ -139,22 +139,22 @@ place_behind client at text units fits calm =
 pub list_place : (client at : ℕ) (ls : List ListedIncident) (next : Option ℕ) (units : Option (List ListedUnit)) →
     at < 2 ^ 64 → place_listed (line_of (outcomes.Board client (shows.List at ls next units))) ≡ Some at
 list_place client at ls None units fits =
-    ap place_listed (told_last client at ls units)
-    ∙ place_behind client at (rows_text ls) units fits (quiet-append 0 (rows_text ls) (44 ∷ []) (rows_quiet ls) refl)
+    ap place_listed (reported_last client at ls units)
+    ∙ place_after client at (rows_text ls) units fits (quiet-append 0 (rows_text ls) (44 ∷ []) (rows_quiet ls) refl)
 list_place client at ls (Some n) units fits =
-    ap place_listed (told_part client at n ls units)
-    ∙ place_behind client at (rows_text ls ++ next_part n) units fits (part_quiet ls n)
+    ap place_listed (reported_part client at n ls units)
+    ∙ place_after client at (rows_text ls ++ next_part n) units fits (part_quiet ls n)
 
 -- what a show of the board has behind its place
 abbrev shown_rest : ℕ → ℕ → List ℕ
-shown_rest client units = told ((codes "session", count client) ∷ (codes "units", count units) ∷ [])
+shown_rest client units = reported ((codes "session", count client) ∷ (codes "units", count units) ∷ [])
 
-told_show : (client at incidents units : ℕ) →
+reported_show : (client at incidents units : ℕ) →
     line_of (outcomes.Board client (shows.Board at incidents units))
     ≡ codes "{\"incidents\":" ++ (decimal incidents
     ++ 44 ∷ (codes "\"ok\":\"board\",\"place\":" ++ (decimal at ++ 44 ∷ shown_rest client units)))
 unfolding escape_byte
-told_show client at incidents units =
+reported_show client at incidents units =
     ap (λ l. codes "{\"incidents\":" ++ l) (append_assoc (decimal incidents) _ (10 ∷ [])
     ∙ ap (λ l. decimal incidents ++ 44 ∷ (codes "\"ok\":\"board\",\"place\":" ++ l)) (append_assoc (decimal at) _
     (10 ∷ [])))
@@ -163,7 +163,7 @@ pub show_place : (client at incidents units : ℕ) → at < 2 ^ 64 →
     place_shown (line_of (outcomes.Board client (shows.Board at incidents units))) ≡ Some at
 unfolding place_in_reply
 show_place client at incidents units fits =
-    ap place_shown (told_show client at incidents units)
+    ap place_shown (reported_show client at incidents units)
     ∙ ap place_by_value (skipped (codes "\"board\",\"place\":") 0 (codes "{\"incidents\":" ++ decimal incidents)
     (codes "\"ok\":\"board\",\"place\":" ++ (decimal at ++ 44 ∷ shown_rest client units))
     (quiet-append 0 (decimal incidents) (44 ∷ []) (decimal_calm incidents).0 refl))

@@ -4,7 +4,7 @@ use Rattle.std.proofs.Common.{None, Some, refl, sym, ap}
 use Rattle.std.proofs.lemmas.List.{drop_more, drop_all}
 use Rattle.desk_output.proofs.Prefixes.{rest_from, rest_from-drop}
 use Rattle.desk_http.specs.Texts.{same}
-use Rattle.desk_page.specs.Told.{after_mark}
+use Rattle.desk_page.specs.Reported.{after_mark}
 
 -- the mark begins the text
 abbrev pub begins : List ℕ → List ℕ → Bool

@@ -5,14 +5,14 @@ use Rattle.std.proofs.lemmas.List.{take_all, take_more, length-take-le}
 use Rattle.desk_page.specs.Groups.{next_node_text, texts_from}
 
 -- nodes, and those that stand after them
-texts_behind : (node : ℕ) (xs ys : List (Option ℕ)) →
+texts_after : (node : ℕ) (xs ys : List (Option ℕ)) →
     texts_from node (xs ++ ys) ≡ texts_from node xs ++ texts_from (node + length xs) ys
-texts_behind node [] ys =
+texts_after node [] ys =
     let here : node + 0 ≡ node = omega arith in
     rw here refl
-texts_behind node (x ∷ xs) ys =
+texts_after node (x ∷ xs) ys =
     let later : node + 1 + length xs ≡ node + suc (length xs) = omega arith in
-    ap (λ l. next_node_text node x ++ l) (texts_behind (node + 1) xs ys
+    ap (λ l. next_node_text node x ++ l) (texts_after (node + 1) xs ys
     ∙ ap (λ n. texts_from (node + 1) xs ++ texts_from n ys) later)
     ∙ sym (append_assoc (next_node_text node x) (texts_from (node + 1) xs) (texts_from (node + suc (length xs)) ys))
 
@@ -21,7 +21,7 @@ one_more : (places : List (Option ℕ)) (i : ℕ) (d : Option ℕ) → i < lengt
 one_more places i d within =
     let many : 1 + length (take i places) ≡ i + 1 =
     omega (arith, length-take-le i places (omega (arith, within))) in
-    ap (texts_from 1) (take_more places i d within) ∙ texts_behind 1 (take i places) (get_or places i d ∷ [])
+    ap (texts_from 1) (take_more places i d within) ∙ texts_after 1 (take i places) (get_or places i d ∷ [])
     ∙ ap (λ n. texts_from 1 (take i places) ++ texts_from n (get_or places i d ∷ [])) many
     ∙ ap (λ l. texts_from 1 (take i places) ++ l) (append-nil (next_node_text (i + 1) (get_or places i d)))
 

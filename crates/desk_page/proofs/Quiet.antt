@@ -126,18 +126,18 @@ glyph_other : (d : ℕ) (small : Bool) → eqb (cond small (48 + d) (87 + d)) 34
 glyph_other d true = other_byte (48 + d) 34 (λ e. omega (arith, e))
 glyph_other d false = other_byte (87 + d) 34 (λ e. omega (arith, e))
 
-kept : (d : ℕ) (behind : List ℕ) → HasNoQuote behind → HasNoQuote (digit_glyph false d ∷ behind)
-kept d behind h = rw (glyph_other d (nat_lt d 10), h) refl
+preserved : (d : ℕ) (beyond : List ℕ) → HasNoQuote beyond → HasNoQuote (digit_glyph false d ∷ beyond)
+preserved d beyond h = rw (glyph_other d (nat_lt d 10), h) refl
 
 either_has_none : (last : Bool) (xs ys : List ℕ) → HasNoQuote xs → HasNoQuote ys → HasNoQuote (cond last xs ys)
 either_has_none true xs ys h k = h
 either_has_none false xs ys h k = k
 
-digits_have_none : (k n : ℕ) (behind : List ℕ) → HasNoQuote behind → HasNoQuote (digits_onto k 10 false n behind)
-digits_have_none zero n behind h = h
-digits_have_none (suc k) n behind h =
-    let more = kept (n % 10) behind h in
-    either_has_none (eqb (n / 10) 0) _ _ more (digits_have_none k (n / 10) (digit_glyph false (n % 10) ∷ behind) more)
+digits_have_none : (k n : ℕ) (beyond : List ℕ) → HasNoQuote beyond → HasNoQuote (digits_onto k 10 false n beyond)
+digits_have_none zero n beyond h = h
+digits_have_none (suc k) n beyond h =
+    let more = preserved (n % 10) beyond h in
+    either_has_none (eqb (n / 10) 0) _ _ more (digits_have_none k (n / 10) (digit_glyph false (n % 10) ∷ beyond) more)
 
 no_quote : (n : ℕ) → HasNoQuote (decimal n)
 unfolding digits

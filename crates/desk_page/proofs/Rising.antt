@@ -3,7 +3,7 @@ use Rattle.std.proofs.Common.{◌≡◌, ◌∙◌, ℕ, List, [], ◌∷◌, �
 use Rattle.std.proofs.Common.{refl, sym, ap}
 use Rattle.std.specs.Prelude.{nat_lt}
 use Rattle.std.proofs.lemmas.Bool.{and_parts, and_from, cond-true, cond-false}
-use Rattle.desk_page.specs.Boards.{is_above, is_next, last_of, rises, told_with}
+use Rattle.desk_page.specs.Boards.{is_above, is_next, last_of, rises, reported_with}
 
 pub last_of-push : (boards : List (ℕ × List ℕ)) (next : ℕ × List ℕ) → last_of (boards ++ next ∷ []) ≡ Some next
 last_of-push [] next = refl
@@ -49,7 +49,8 @@ next_is f g boards latest place seen above last is e =
     e ∙ ap (λ o. is_above o place) (is ∙ sym (place_is f g boards latest last))
 
 -- one more board where it is the next, and the same boards where it is not
-pub told_is : (old new : List (ℕ × List ℕ)) (board : ℕ × List ℕ) (told : Bool) → told ≡ is_next old board.0 →
-    (told ≡ true → new ≡ old ++ board ∷ []) → (told ≡ false → new ≡ old) → new ≡ told_with old board
-told_is old new board true is t k = t refl ∙ sym (cond-true _ _ _ (sym is))
-told_is old new board false is t k = k refl ∙ sym (cond-false _ _ _ (sym is))
+pub announced_is : (old new : List (ℕ × List ℕ)) (board : ℕ × List ℕ) (reported : Bool) →
+    reported ≡ is_next old board.0 →
+    (reported ≡ true → new ≡ old ++ board ∷ []) → (reported ≡ false → new ≡ old) → new ≡ reported_with old board
+announced_is old new board true is t k = t refl ∙ sym (cond-true _ _ _ (sym is))
+announced_is old new board false is t k = k refl ∙ sym (cond-false _ _ _ (sym is))

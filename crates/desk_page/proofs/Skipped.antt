@@ -3,7 +3,7 @@ use Rattle.std.proofs.Common.{◌≡◌, ◌∙◌, ℕ, List, [], ◌∷◌, �
 use Rattle.std.specs.Prelude.{◌==◌, ◌&&◌}
 use Rattle.std.proofs.lemmas.Bool.{eqb-true}
 use Rattle.desk_types.proofs.Bytes.{and_parts}
-use Rattle.desk_page.specs.Told.{after_mark}
+use Rattle.desk_page.specs.Reported.{after_mark}
 use Rattle.desk_page.proofs.Marks.{begins, later}
 use Rattle.desk_page.proofs.Quiet.{quiet, step}
 

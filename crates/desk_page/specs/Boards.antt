@@ -3,7 +3,7 @@ use Rattle.std.specs.Prelude.{◌≡◌, ℕ, Bool, true, false, ◌&&◌, nat_l
 use Rattle.std.specs.Prelude.{Option, Some, None, option_map, if◌then◌else◌}
 use Rattle.desk_lines.specs.Lines.{lines_of}
 use Rattle.desk_lines.specs.Served.{Served}
-use Rattle.desk_page.specs.Told.{place_listed}
+use Rattle.desk_page.specs.Reported.{place_listed}
 
 -- the document that asks for all open incidents
 abbrev pub list_document : ℕ → List ℕ
@@ -32,13 +32,13 @@ is_above None place = true
 is_above (Some after) place = nat_lt after place
 
 -- the same of a place that is told, if one is
-abbrev pub is_told_above : Option ℕ → Option ℕ → Bool
-is_told_above after None = false
-is_told_above after (Some place) = is_above after place
+abbrev pub is_reported_above : Option ℕ → Option ℕ → Bool
+is_reported_above after None = false
+is_reported_above after (Some place) = is_above after place
 
 -- A handler gave this line to a list, and it is of a place above the other.
 abbrev pub IsNewer : {S : Type 0} → (S → List ℕ → List ℕ → S → Type 0) → Option ℕ → List ℕ → Type 0
-IsNewer answers after line = (is_told_above after (place_listed line) ≡ true) × ∥ IsListed answers line ∥₁
+IsNewer answers after line = (is_reported_above after (place_listed line) ≡ true) × ∥ IsListed answers line ∥₁
 
 -- this is the place of a board that a handler listed
 abbrev pub IsListedPlace : {S : Type 0} → (S → List ℕ → List ℕ → S → Type 0) → ℕ → Type 0
@@ -66,8 +66,8 @@ abbrev pub is_next : List (ℕ × List ℕ) → ℕ → Bool
 is_next boards place = is_above (option_map (λ last. last.0) (last_of boards)) place
 
 -- the boards that were told, and one more where it is of a place above the last
-abbrev pub told_with : List (ℕ × List ℕ) → ℕ × List ℕ → List (ℕ × List ℕ)
-told_with boards board = if is_next boards board.0 then boards ++ board ∷ [] else boards
+abbrev pub reported_with : List (ℕ × List ℕ) → ℕ × List ℕ → List (ℕ × List ℕ)
+reported_with boards board = if is_next boards board.0 then boards ++ board ∷ [] else boards
 
 -- Where a reply tells the place of a list, there is a board with just that place and line, and else there is none.
 abbrev pub IsBoardOf : List ℕ → Option (ℕ × List ℕ) → Type 0

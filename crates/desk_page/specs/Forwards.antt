@@ -2,7 +2,7 @@
 use Rattle.std.specs.Prelude.{ℕ, List, Option, Some, None, codes, is_some, if◌then◌else◌, Bool}
 use Rattle.desk_metrics.specs.declared.counts.ForwardOutcome.{ForwardOutcome}
 use Rattle.desk_metrics.specs.declared.counts.ForwardOutcome.TheVariants as outcomes
-use Rattle.desk_page.specs.Told.{after_mark}
+use Rattle.desk_page.specs.Reported.{after_mark}
 
 -- reply lines tell a refusal; no text within quotes has that mark
 abbrev pub tells_refusal : List ℕ → Bool

@@ -1,4 +1,4 @@
-pub mod Told
+pub mod Reported
 pub mod Query
 pub mod Boards
 pub mod Groups

@@ -2,10 +2,10 @@
 
 ghost use Rattle.std.specs.Prelude.{◌≡◌, ◌++◌, ℕ, List, IfOk, decimal, option_map};
 ghost use Rattle.desk_page.specs.Boards.{IsBoardOf, Writes, list_document, show_document};
-ghost use Rattle.desk_page.specs.Told.{place_shown};
+ghost use Rattle.desk_page.specs.Reported.{place_shown};
 
 use crate::board_line::{BoardLine, listed_line};
-use crate::told::place_in_reply;
+use crate::reported::place_in_reply;
 use desk_lines::{Handler, NoGate, serve_lines};
 use desk_types::Refusal;
 use itoa::Buffer;
@@ -33,14 +33,14 @@ fn with_number(
     alloc: Global,
     before: &[u8],
     number: u64,
-    behind: &[u8],
+    beyond: &[u8],
 ) -> Result<Vec<u8>, AllocError>
-    ensures { IfOk result (λ text. text.items ≡ before.now ++ (decimal number ++ behind.now)) }
+    ensures { IfOk result (λ text. text.items ≡ before.now ++ (decimal number ++ beyond.now)) }
 {
     let mut digits = Buffer::new();
     let mut text = Vec::from_slice(alloc, before)?;
     text.extend_from_slice(digits.format(number).as_bytes())?;
-    text.extend_from_slice(behind)?;
+    text.extend_from_slice(beyond)?;
     Ok(text)
 }
 

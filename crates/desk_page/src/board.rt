@@ -1,7 +1,7 @@
 //! The board that was told last.
 
 ghost use Rattle.std.specs.Prelude.{◌≡◌, ◌≤◌, ◌∷◌, ◌++◌, [], true, false, IfOk, IfSome, IsSomeAnd, option_map};
-ghost use Rattle.desk_page.specs.Boards.{IsListedPlace, IsNewer, is_next, last_of, newer_of, rises, told_with};
+ghost use Rattle.desk_page.specs.Boards.{IsListedPlace, IsNewer, is_next, last_of, newer_of, rises, reported_with};
 
 use crate::board_line::{BoardLine, is_above};
 use bytes::Bytes;
@@ -12,26 +12,29 @@ use std::alloc::AllocError;
 /// The board that was told last. Of those that were told, each was of a place above that of the one before it.
 pub(crate) struct Board<D: Handler> {
     latest: Option<BoardLine<D>>,
-    told: Log<u64, Bytes>,
-    ghost rises: { rises told.items ≡ true },
-    ghost last: { last_of told.items ≡ option_map (λ line. (line.place, line.text)) latest },
+    reported: Log<u64, Bytes>,
+    ghost rises: { rises reported.items ≡ true },
+    ghost last: { last_of reported.items ≡ option_map (λ line. (line.place, line.text)) latest },
 }
 
 // It is written out, so that a caller does not prove again how each part is dropped.
 impl<D: Handler> Drop for Board<D> {
     fn drop(self) {
-        let Board { latest: _, told: _ } = self;
+        let Board {
+            latest: _,
+            reported: _,
+        } = self;
     }
 }
 
 impl<D: Handler> Board<D> {
     /// No board was told.
     pub(crate) fn new() -> Board<D>
-        ensures { result.told.items ≡ [] }
+        ensures { result.reported.items ≡ [] }
     {
         Board {
             latest: None,
-            told: Log::new(),
+            reported: Log::new(),
         }
     }
 
@@ -48,18 +51,19 @@ impl<D: Handler> Board<D> {
 
     /// Tells a board, where it is of a place above that of the one before it. Answers whether it was told.
     pub(crate) fn tell(&mut self, line: BoardLine<D>) -> bool
-        ensures told { result ≡ true → self.new.told.items ≡ self.old.told.items ++ (line.place, line.text) ∷ [] }
-        ensures kept { result ≡ false → self.new.told.items ≡ self.old.told.items }
-        ensures next { result ≡ is_next self.old.told.items line.place }
+        ensures reported { result ≡ true →
+            self.new.reported.items ≡ self.old.reported.items ++ (line.place, line.text) ∷ [] }
+        ensures preserved { result ≡ false → self.new.reported.items ≡ self.old.reported.items }
+        ensures next { result ≡ is_next self.old.reported.items line.place }
         ensures above { IsSomeAnd self.new.latest (λ latest. line.place ≤ latest.place) }
     {
         if !is_above(self.place(), line.place) {
             return false;
         }
-        let told = self.told.and(&line.place, &line.text);
+        let reported = self.reported.and(&line.place, &line.text);
         *self = Board {
             latest: Some(line),
-            told,
+            reported,
         };
         true
     }
@@ -69,7 +73,7 @@ impl<D: Handler> Board<D> {
         ensures listed { IfSome result (IsListedPlace D.answers) }
         ensures above { IsSomeAnd result (λ place. line.place ≤ place) }
         // It is told where it is newer, and what was told before stays.
-        ensures told { self.new.told.items ≡ told_with self.old.told.items (line.place, line.text) }
+        ensures reported { self.new.reported.items ≡ reported_with self.old.reported.items (line.place, line.text) }
     {
         self.tell(line);
         self.place()
@@ -79,7 +83,7 @@ impl<D: Handler> Board<D> {
     pub(crate) fn newer(&self, after: Option<u64>) -> Result<Option<Bytes>, AllocError>
         ensures newer { IfOk result (λ found. IfSome found (IsNewer D.answers after)) }
         // It is the board that was told last, and no board before it.
-        ensures last { IfOk result (λ found. found ≡ newer_of after (last_of self.now.told.items)) }
+        ensures last { IfOk result (λ found. found ≡ newer_of after (last_of self.now.reported.items)) }
     {
         match &self.latest {
             Some(line) => line.newer(after),

@@ -1,10 +1,10 @@
 //! The line of a board.
 
 ghost use Rattle.std.specs.Prelude.{◌≡◌, IfOk, IfSome, Some, option_map};
-ghost use Rattle.desk_page.specs.Told.{place_listed};
+ghost use Rattle.desk_page.specs.Reported.{place_listed};
 ghost use Rattle.desk_page.specs.Boards.{is_above, IsListed, IsNewer, IsBoardOf, newer_of};
 
-use crate::told::place_in_reply;
+use crate::reported::place_in_reply;
 use bytes::Bytes;
 use desk_lines::Handler;
 use desk_types::Refusal;
@@ -16,7 +16,7 @@ pub struct BoardLine<D: Handler> {
     pub text: Bytes,
     pub place: u64,
     by: PhantomData<D>,
-    ghost told: { place_listed text ≡ Some place },
+    ghost reported: { place_listed text ≡ Some place },
     ghost given: { ∥ IsListed D.answers text ∥₁ },
 }
 

@@ -6,7 +6,7 @@ ghost use Rattle.desk_types.specs.declared.list.ListedUnit.{ListedUnit};
 ghost use Rattle.desk_types.specs.declared.outcome.Outcome.TheVariants as outcomes;
 ghost use Rattle.desk_types.specs.declared.show.Shown.TheVariants as shows;
 ghost use Rattle.desk_eido.specs.ReplyLine.{line_of};
-ghost use Rattle.desk_page.specs.Told.{place_listed, place_shown};
+ghost use Rattle.desk_page.specs.Reported.{place_listed, place_shown};
 
 /// The place that is read of a list's reply line is the place of that list. It does nothing.
 pub fn list_place()

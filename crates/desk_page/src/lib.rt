@@ -12,9 +12,9 @@ mod group;
 mod laws;
 mod metrics;
 mod query;
+mod reported;
 mod service;
 mod shared;
-mod told;
 
 pub use asks::{read_board, read_place};
 pub use board_line::BoardLine;

@@ -10,7 +10,7 @@ ghost use Rattle.desk_page.specs.Groups.{seen_places};
 
 use crate::fields::add_field;
 use crate::group::SeenGroup;
-use crate::told::after_mark;
+use crate::reported::after_mark;
 use bytes::Bytes;
 use desk_metrics::{Counts, ForwardOutcome, write_metrics};
 use http::HeaderValue;

@@ -2,7 +2,7 @@
 
 ghost use Rattle.std.specs.Prelude.{◌≤◌, ℕ, List, IfOk, IfSome, IsSomeAnd};
 ghost use Rattle.desk_page.specs.Boards.{IsListedPlace, IsNewer, IsWritten, Writes, list_document};
-ghost use Rattle.desk_page.specs.Told.{place_listed};
+ghost use Rattle.desk_page.specs.Reported.{place_listed};
 
 use crate::asks::{ask, read_board};
 use crate::board::Board;
@@ -93,9 +93,9 @@ pub fn publish_listed<D: Handler, R: Wait>(
     session: u64,
 ) -> (D, Result<Option<u64>, Refusal>)
     // Wherever the reply tells the place of a list, the board that is told last is not below it.
-    ensures { IfOk result.1 (λ told. (reply : List ℕ)
+    ensures { IfOk result.1 (λ reported. (reply : List ℕ)
         × Writes D.answers handler (list_document session) result.0 reply
-        × IfSome (place_listed reply) (λ place. IsSomeAnd told (λ last. place ≤ last))) }
+        × IfSome (place_listed reply) (λ place. IsSomeAnd reported (λ last. place ≤ last))) }
 {
     let (handler, read) = read_board(alloc, handler, session);
     match read {
@@ -198,14 +198,14 @@ pub(crate) fn awaited_board<D: Handler, R: Wait + Clock>(
 /// Has a handler answer the lines of a body, and gives its replies. There are none where it gives up.
 fn replies_by<D: Handler + Drop>(
     alloc: Global,
-    kept: &mut Option<D>,
+    preserved: &mut Option<D>,
     admitted: &Admitted<'_>,
 ) -> Option<Vec<u8>>
     ensures { IfSome result (λ out. IsWritten D.answers admitted.now.body.now out.items) }
 {
-    let handler = kept.take()?;
+    let handler = preserved.take()?;
     let (handler, outcome) = ask(alloc, handler, admitted.body);
-    *kept = Some(handler);
+    *preserved = Some(handler);
     match outcome {
         Ok(out) => Some(out),
         Err(_) => None,
@@ -220,11 +220,11 @@ fn replies_now<D: Handler + Drop>(
 ) -> Option<Option<Vec<u8>>>
     ensures { IfSome result (λ found. IfSome found (λ out. IsWritten D.answers admitted.now.body.now out.items)) }
 {
-    if let Some(mut kept) = shared.first.try_lock() {
-        return Some(replies_by(alloc, &mut *kept, admitted));
+    if let Some(mut preserved) = shared.first.try_lock() {
+        return Some(replies_by(alloc, &mut *preserved, admitted));
     }
     match shared.second.try_lock() {
-        Some(mut kept) => Some(replies_by(alloc, &mut *kept, admitted)),
+        Some(mut preserved) => Some(replies_by(alloc, &mut *preserved, admitted)),
         None => None,
     }
 }

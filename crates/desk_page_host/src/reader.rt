@@ -73,7 +73,7 @@ fn list_board<R: NodeRuntime>(
 ) -> (Follower<GroupNodes<R>>, Duration) {
     let began = Instant::now(rt).ok();
     // where no board came, the one that was told last stays
-    let (reader, _told) = publish_listed(rt, alloc, shared, reader, SESSION);
+    let (reader, _reported) = publish_listed(rt, alloc, shared, reader, SESSION);
     (reader, pause_since(rt, &began))
 }
 

@@ -10,7 +10,16 @@ use Rattle.desk_codec.specs.Spelling.{frame_spelling}
 use Rattle.desk_frames.specs.Stream.{frames_spelling}
 use Rattle.desk_frames.proofs.Receiving.{frames_append}
 use Rattle.desk_output.specs.Prefixes.{AppendsPrefix}
-use Rattle.desk_peers.specs.Links.{LinkState, StartsEmpty, Reaches, Closes, IsKept, IsSentOnce, IsSent, EndsLink}
+use Rattle.desk_peers.specs.Links.{
+  LinkState,
+  StartsEmpty,
+  Reaches,
+  Closes,
+  IsSameOrClosed,
+  IsSentOnce,
+  IsSent,
+  EndsLink,
+}
 use Rattle.desk_mailbox.specs.declared.rule.SentItem.{SentItem}
 use Rattle.desk_peers.specs.Outgoing.{Carried, carried_bytes, packets_of, packets_in, IsSubsequence, HasCarried}
 use Rattle.desk_peers.proofs.Subsequences.{with_last, without_last}
@@ -66,7 +75,7 @@ held_is : (closed : Option (List (List ℕ))) (current : Option (Option (List �
     Reaches (record { closed = closed; current = current }) held → held ≡ Some (frames_spelling run)
 held_is closed None after held run known none reach =
     subst (λ c. StartsEmpty c held) known reach ∙ ap (λ r. Some (frames_spelling r)) (sym none)
-held_is closed (Some kept) after held run known some reach = reach ∙ some
+held_is closed (Some preserved) after held run known some reach = reach ∙ some
 
 -- known bytes with more after them
 grown_known : (text more : List ℕ) (after : Option (List ℕ)) → Appends (Some text) after more →
@@ -187,12 +196,13 @@ end_more start closed taken (Some held) (Some final) h ends =
     (subst (λ ms. IsSubsequence (flat_map packets_of k.carried ++ ms) taken) (sym (append-nil k.run)) k.some)
 
 -- the link before the packet
-goes_kept : (start : Option (List (List ℕ))) (taken : List Message) (old kept : LinkState) → Goes start taken old →
-    IsKept old kept → Goes start taken kept
-goes_kept start taken old kept goes (inl same) = subst (Goes start taken) (sym same) goes
-goes_kept start taken old kept goes (inr (none, ends)) =
-    subst (λ c. IfSome kept.closed (λ texts. Carries start taken texts c)) (sym none)
-    (end_more start old.closed taken old.current kept.closed goes ends)
+goes_ready : (start : Option (List (List ℕ))) (taken : List Message) (old preserved : LinkState) →
+    Goes start taken old →
+    IsSameOrClosed old preserved → Goes start taken preserved
+goes_ready start taken old preserved goes (inl same) = subst (Goes start taken) (sym same) goes
+goes_ready start taken old preserved goes (inr (none, ends)) =
+    subst (λ c. IfSome preserved.closed (λ texts. Carries start taken texts c)) (sym none)
+    (end_more start old.closed taken old.current preserved.closed goes ends)
 
 -- the packet over the link as it stands
 goes_once : (start : Option (List (List ℕ))) (taken : List Message) (m : Message) (old new : LinkState)
@@ -210,8 +220,8 @@ goes_once start taken m old new false goes (inl (held, reach, (after, wrote, clo
 -- one packet more
 pub goes_on : (start : Option (List (List ℕ))) (taken : List Message) (m : Message) (old new : LinkState)
     (sent : Bool) → Goes start taken old → IsSent (frame_spelling m) old sent new → Goes start (taken ++ m ∷ []) new
-goes_on start taken m old new sent goes (kept, is_kept, once) =
-    goes_once start taken m kept new sent (goes_kept start taken old kept goes is_kept) once
+goes_on start taken m old new sent goes (preserved, is_same, once) =
+    goes_once start taken m preserved new sent (goes_ready start taken old preserved goes is_same) once
 
 -- all packets, and the link was ended
 carried_all : (start : Option (List (List ℕ))) (taken : List Message) (final : Option (List (List ℕ))) →

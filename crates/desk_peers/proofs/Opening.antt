@@ -22,11 +22,11 @@ pub record IsOpen (id node : ℕ) (ends : List (Option (Sender Message))) (queue
 
 -- an end stays where it is, with one more after the others
 
-end_kept : (ends : List (Option (Sender Message))) (x : Option (Sender Message)) (k : ℕ) (s : Sender Message) →
+end_preserved : (ends : List (Option (Sender Message))) (x : Option (Sender Message)) (k : ℕ) (s : Sender Message) →
     end_to ends k ≡ Some s → end_to (ends ++ x ∷ []) k ≡ Some s
-end_kept [] x k s e = absurd (let no : ⊥ = cc in no)
-end_kept (y ∷ ends) x zero s e = e
-end_kept (y ∷ ends) x (suc k) s e = end_kept ends x k s e
+end_preserved [] x k s e = absurd (let no : ⊥ = cc in no)
+end_preserved (y ∷ ends) x zero s e = e
+end_preserved (y ∷ ends) x (suc k) s e = end_preserved ends x k s e
 
 end_else : (ends : List (Option (Sender Message))) (x : Option (Sender Message)) (k : ℕ) → length ends ≢ k →
     end_to (ends ++ x ∷ []) k ≡ end_to ends k
@@ -40,12 +40,12 @@ end_last : (ends : List (Option (Sender Message))) (x : Option (Sender Message))
 end_last [] x = refl
 end_last (y ∷ ends) x = end_last ends x
 
-none_kept : (ends : List (Option (Sender Message))) (k : ℕ) → end_to ends k ≡ None →
+none_preserved : (ends : List (Option (Sender Message))) (k : ℕ) → end_to ends k ≡ None →
     end_to (ends ++ None ∷ []) k ≡ None
-none_kept [] zero e = refl
-none_kept [] (suc k) e = refl
-none_kept (y ∷ ends) zero e = e
-none_kept (y ∷ ends) (suc k) e = none_kept ends k e
+none_preserved [] zero e = refl
+none_preserved [] (suc k) e = refl
+none_preserved (y ∷ ends) zero e = e
+none_preserved (y ∷ ends) (suc k) e = none_preserved ends k e
 
 nothing_put : (ends : List (Option (Sender Message))) (x : Option (Sender Message)) → put_in x ≡ [] →
     ((k : ℕ) → put_to ends k ≡ []) → (k : ℕ) → put_to (ends ++ x ∷ []) k ≡ []
@@ -90,10 +90,10 @@ module _ (id node : ℕ) (ends : List (Option (Sender Message))) (queues : List 
   opens_none : (node == id) ≡ true → IsOpen id (node + 1) (ends ++ None ∷ []) queues
   opens_none own = record {
     nodes = h.nodes ∙ sym (next_is_own id node own);
-    own = none_kept ends id h.own;
+    own = none_preserved ends id h.own;
     count = length-append ends (None ∷ []) ∙ ap (λ n. n + 1) h.count;
     feeds = All-weaker (Feeds ends) (Feeds (ends ++ None ∷ []))
-        (λ q f. (f.0, end_kept ends None q.node f.0 f.1, f.2)) queues h.feeds;
+        (λ q f. (f.0, end_preserved ends None q.node f.0 f.1, f.2)) queues h.feeds;
     empty = nothing_put ends None refl h.empty;
     new = h.new;
   }
@@ -111,7 +111,7 @@ module _ (id node : ℕ) (ends : List (Option (Sender Message))) (queues : List 
         own = end_else ends (Some sender) id (λ e. eqb-false node id other (sym h.count ∙ e)) ∙ h.own;
         count = length-append ends (Some sender ∷ []) ∙ ap (λ n. n + 1) h.count;
         feeds = All-push (Feeds more) queues queue
-            (All-weaker (Feeds ends) (Feeds more) (λ q f. (f.0, end_kept ends (Some sender) q.node f.0 f.1, f.2))
+            (All-weaker (Feeds ends) (Feeds more) (λ q f. (f.0, end_preserved ends (Some sender) q.node f.0 f.1, f.2))
             queues h.feeds)
             (sender, ap (λ k. end_to more k) (node_is ∙ sym h.count) ∙ end_last ends (Some sender), sends);
         empty = nothing_put ends (Some sender) none h.empty;

@@ -37,8 +37,8 @@ abbrev pub EndsLink : LinkState → Option (List (List ℕ)) → Type 0
 EndsLink link closed = MatchOption link.current (closed ≡ link.closed) (λ held. Closes link.closed held closed)
 
 -- The link is as it was, or its connection was closed.
-abbrev pub IsKept : LinkState → LinkState → Type 0
-IsKept old new = (new ≡ old) ⊎ ((new.current ≡ None) × EndsLink old new.closed)
+abbrev pub IsSameOrClosed : LinkState → LinkState → Type 0
+IsSameOrClosed old new = (new ≡ old) ⊎ ((new.current ≡ None) × EndsLink old new.closed)
 
 -- The frame was written over the open connection, or over a new one; or none could be made.
 abbrev pub IsSentOnce : List ℕ → LinkState → Bool → LinkState → Type 0
@@ -48,4 +48,4 @@ IsSentOnce frame old sent new =
 
 -- The same over the open connection, or over a new one once that was closed.
 abbrev pub IsSent : List ℕ → LinkState → Bool → LinkState → Type 0
-IsSent frame old sent new = (kept : LinkState) × IsKept old kept × IsSentOnce frame kept sent new
+IsSent frame old sent new = (preserved : LinkState) × IsSameOrClosed old preserved × IsSentOnce frame preserved sent new

@@ -8,7 +8,8 @@ use Rattle.desk_mailbox.specs.declared.rule.SentItem.{SentItem}
 
 -- some of these, in their order
 abbrev pub IsSubsequence : List Message → List Message → Type 0
-IsSubsequence some all = (kept : List Bool) × (length kept ≡ length all) × (some ≡ items_where_true kept all)
+IsSubsequence some all = (chosen : List Bool) × (length chosen ≡ length all) ×
+    (some ≡ items_where_true chosen all)
 
 -- What a connection carried: the frames of packets, and a prefix of one more where writing that one failed.
 pub record Carried : Type 0 where

@@ -4,7 +4,7 @@ ghost use Rattle.std.specs.Prelude.{◌≡◌, None, OnOk, OnErr};
 ghost use Rattle.std.specs.Io.KnownBytes.{Appends};
 ghost use Rattle.desk_codec.specs.Spelling.{frame_spelling};
 ghost use Rattle.desk_output.specs.Prefixes.{AppendsPrefix};
-ghost use Rattle.desk_peers.specs.Links.{IsKept, IsSentOver, IsSentOnce, IsSent, EndsLink};
+ghost use Rattle.desk_peers.specs.Links.{IsSameOrClosed, IsSentOver, IsSentOnce, IsSent, EndsLink};
 
 use desk_frames::write_packet;
 use desk_output::flush;
@@ -107,8 +107,8 @@ impl<C: Connect> PeerLink<C> {
     }
 
     // The link for one packet more: its connection is closed where it is not to carry that.
-    fn kept(self) -> PeerLink<C>
-        ensures { IsKept self result }
+    fn for_next_packet(self) -> PeerLink<C>
+        ensures { IsSameOrClosed self result }
     {
         let PeerLink {
             connector,
@@ -150,7 +150,7 @@ impl<C: Connect> PeerLink<C> {
     pub fn send(self, alloc: Global, packet: &Packet) -> (PeerLink<C>, bool)
         ensures { IsSent (frame_spelling packet.now) self result.1 result.0 }
     {
-        self.kept().send_once(alloc, packet)
+        self.for_next_packet().send_once(alloc, packet)
     }
 
     /// Closes the connection, if there is one.

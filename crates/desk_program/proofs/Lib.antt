@@ -1,1 +1,1 @@
-pub mod ToldFaults
+pub mod ReportedFaults

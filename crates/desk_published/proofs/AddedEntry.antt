@@ -48,9 +48,9 @@ Goes-added log v e old len pre false is =
 pub Moves-added : (v : List Entry) (e : Entry) (old : ℕ) → length v ≡ old →
     Moves HoldsLength shown moved 0 (v, (no_nib, None)) (λ n. either (n == old) (old + 1) n)
     (Adds (step 0 old (old + 1) e) (v, (no_nib, None)))
-Moves-added v e old len cs log kept pre away =
+Moves-added v e old len cs log preserved pre away =
     let P : List Cell → Type 0 = λ c.
     (0 < length c) × ((cell c 0).1 ≡ true)
     × Goes HoldsLength shown moved 0 (v, (no_nib, None)) (λ n. either (n == old) (old + 1) n)
     (Adds (step 0 old (old + 1) e) (v, (no_nib, None))) c log in
-    subst P (sym kept) (omega arith, refl, Goes-added log v e old len pre (length log == old) refl)
+    subst P (sym preserved) (omega arith, refl, Goes-added log v e old len pre (length log == old) refl)

@@ -3,6 +3,6 @@ pub mod Executed
 pub mod SeatSteps
 pub mod Prefixes
 pub mod AfterPublish
-pub mod ToldPlaces
-pub mod ToldRows
+pub mod ReportedPlaces
+pub mod ReportedRows
 pub mod PrefixEquations

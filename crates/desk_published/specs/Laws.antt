@@ -6,8 +6,8 @@ use Rattle.desk_log.specs.Entries.{IsRising}
 use Rattle.desk_board.specs.declared.row.Row.{Row}
 use Rattle.desk_board.specs.Execute.{row_of}
 use Rattle.desk_board.specs.Log.{board_of}
-use Rattle.desk_published.specs.declared.told.ToldWord.TheVariants as words
-use Rattle.desk_published.specs.Told.{stands}
+use Rattle.desk_published.specs.declared.reported.ReportedWord.TheVariants as words
+use Rattle.desk_published.specs.Reported.{stands}
 
 -- The board of the list has a row of the client. In a rising list its number is not below the request's.
 abbrev pub HasRow : List ℕ → List Entry → ℕ → ℕ → Type 0
@@ -15,7 +15,8 @@ HasRow domain list client number =
     (r : Row) × (row_of client (board_of domain list) ≡ Some r) × (IsRising list → number ≤ r.number)
 
 -- So it is with each list that begins with what was published when the client was told.
-abbrev pub ToldHasRow : Type 0
-ToldHasRow =
-    (domain : List ℕ) (told list : List Entry) (client number count : ℕ) →
-    stands told client number (words.Published count) ≡ true → IsPrefix told list → HasRow domain list client number
+abbrev pub ReportedHasRow : Type 0
+ReportedHasRow =
+    (domain : List ℕ) (reported list : List Entry) (client number count : ℕ) →
+    stands reported client number (words.Published count) ≡ true → IsPrefix reported list →
+    HasRow domain list client number

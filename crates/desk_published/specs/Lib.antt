@@ -3,5 +3,5 @@ pub mod Laws
 pub mod PrefixRule
 pub mod Reads
 pub mod Requests
-pub mod Told
+pub mod Reported
 pub mod Writer

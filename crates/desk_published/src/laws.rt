@@ -1,9 +1,9 @@
 //! Laws of what a client is told.
 
-ghost use Rattle.desk_published.specs.Laws.{ToldHasRow};
+ghost use Rattle.desk_published.specs.Laws.{ReportedHasRow};
 
 /// What is true of each word that a request is published: the client's row is on the board of every list that begins
 /// with what was published then. It does nothing: its clause is the law.
-pub fn told_rows()
-    ensures row { ToldHasRow }
+pub fn reported_rows()
+    ensures row { ReportedHasRow }
 {}

@@ -10,14 +10,14 @@ pub mod laws;
 pub mod limits;
 mod published;
 mod reader;
+mod reported;
 mod rule;
-mod told;
 mod writer;
 
 pub use board_name::BoardName;
 pub use history::{HistoryEnd, HistoryPrefix, HistoryRule, NewHistory};
 pub use published::{NextEntry, PublishedBoard};
 pub use reader::BoardReader;
+pub use reported::{Reported, ReportedWord};
 pub use rule::{PrefixRule, SeatView};
-pub use told::{Told, ToldWord};
 pub use writer::BoardWriter;

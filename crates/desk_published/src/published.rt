@@ -6,12 +6,12 @@ ghost use Rattle.desk_board.specs.Log.{board_of};
 ghost use Rattle.desk_types.specs.declared.limits.TheConstants.{LAST_PLACE};
 ghost use Rattle.desk_published.specs.History.{EndsWith};
 ghost use Rattle.desk_published.specs.Requests.{request_id, is_id_of};
-ghost use Rattle.desk_published.specs.Told.{is_request_at};
-ghost use Rattle.desk_published.specs.declared.told.ToldWord.TheVariants as words;
+ghost use Rattle.desk_published.specs.Reported.{is_request_at};
+ghost use Rattle.desk_published.specs.declared.reported.ReportedWord.TheVariants as words;
 
 use crate::board_name::BoardName;
 use crate::history::HistoryPrefix;
-use crate::told::{Told, ToldWord};
+use crate::reported::{Reported, ReportedWord};
 use desk_board::Board;
 use desk_types::limits::LAST_PLACE;
 use desk_types::{ClientId, Domain, Entry, Refusal, RequestNumber};
@@ -152,7 +152,7 @@ impl<B: BoardName> PublishedBoard<B> {
     }
 
     // Whether the entry at the place is the request of this client and number.
-    #[tactic(auto, using(crate::proofs::ToldPlaces::none_beyond, crate::proofs::ToldPlaces::some_request))]
+    #[tactic(auto, using(crate::proofs::ReportedPlaces::none_beyond, crate::proofs::ReportedPlaces::some_request))]
     fn has_request(&self, client: ClientId, number: RequestNumber, place: u64) -> bool
         ensures { result ≡ is_request_at self.now client number place }
     {
@@ -163,26 +163,26 @@ impl<B: BoardName> PublishedBoard<B> {
     }
 
     /// Tells a client that its request is published, where the entry at the place is that request; `None` elsewhere.
-    #[tactic(auto, using(crate::proofs::ToldPlaces::told_stands))]
+    #[tactic(auto, using(crate::proofs::ReportedPlaces::reported_stands))]
     pub(crate) fn tell(
         &self,
         client: ClientId,
         number: RequestNumber,
         place: u64,
-    ) -> Option<Told<B>>
+    ) -> Option<Reported<B>>
         ensures there { is_some result ≡ is_request_at self.now client number place }
-        ensures told { IfSome result (λ t. (t.published ≡ self.now) × (t.client ≡ client) × (t.number ≡ number)
+        ensures reported { IfSome result (λ t. (t.published ≡ self.now) × (t.client ≡ client) × (t.number ≡ number)
             × (t.word ≡ words.Published (length self.now))) }
     {
         if !self.has_request(client, number, place) {
             return None;
         }
         let count = self.history.len();
-        Some(Told {
+        Some(Reported {
             published: self.history.copy(),
             client,
             number,
-            word: ToldWord::Published(count),
+            word: ReportedWord::Published(count),
         })
     }
 
@@ -192,16 +192,16 @@ impl<B: BoardName> PublishedBoard<B> {
         client: ClientId,
         number: RequestNumber,
         refusal: Refusal,
-    ) -> Told<B>
+    ) -> Reported<B>
         ensures published { result.published ≡ self.now }
         ensures request { (result.client ≡ client) × (result.number ≡ number) }
         ensures word { result.word ≡ words.Refused refusal }
     {
-        Told {
+        Reported {
             published: self.history.copy(),
             client,
             number,
-            word: ToldWord::Refused(refusal),
+            word: ReportedWord::Refused(refusal),
         }
     }
 

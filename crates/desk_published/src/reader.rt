@@ -7,13 +7,13 @@ ghost use Rattle.left_right.specs.Sides.{view};
 ghost use Rattle.desk_board.specs.Log.{board_of};
 ghost use Rattle.desk_published.specs.Laws.{HasRow};
 ghost use Rattle.desk_published.specs.Reads.{one_more_failed, HasFailedOnce};
-ghost use Rattle.desk_published.specs.Told.{IfPublished};
+ghost use Rattle.desk_published.specs.Reported.{IfPublished};
 
 use crate::board_name::BoardName;
 use crate::history::HistoryPrefix;
 use crate::published::PublishedBoard;
+use crate::reported::Reported;
 use crate::rule::{Enter, PrefixRule, SeatView};
-use crate::told::Told;
 use crossbeam_utils::rule::Protocol;
 use desk_board::Board;
 use left_right::reader::Reader;
@@ -110,14 +110,14 @@ impl<B: BoardName> BoardReader<B> {
         }
     }
 
-    /// Later reads begin with what `told` says. Where that is that a request is published, its client's row is on the
-    /// board of the pass, and so on that of every later one.
-    #[tactic(auto, using(crate::proofs::ToldRows::learnt_row))]
-    pub fn learn(self, told: &Told<B>) -> BoardReader<B>
+    /// Later reads begin with what `reported` says. Where that is that a request is published, its client's row is on
+    /// the board of the pass, and so on that of every later one.
+    #[tactic(auto, using(crate::proofs::ReportedRows::learnt_row))]
+    pub fn learn(self, reported: &Reported<B>) -> BoardReader<B>
         ensures pass { IsPrefix self.pass result.pass }
-        ensures told { IsPrefix told.now.published result.pass }
-        ensures row { IfPublished told.now.word
-            (HasRow B.domain result.pass told.now.client told.now.number) }
+        ensures reported { IsPrefix reported.now.published result.pass }
+        ensures row { IfPublished reported.now.word
+            (HasRow B.domain result.pass reported.now.client reported.now.number) }
         ensures seat { result.inner ≡ self.inner }
         ensures failed { result.failed_reads ≡ self.failed_reads }
     {
@@ -126,7 +126,7 @@ impl<B: BoardName> BoardReader<B> {
             pass,
             failed_reads,
         } = self;
-        let pass = pass.longer(&told.published);
+        let pass = pass.longer(&reported.published);
         BoardReader {
             inner,
             pass,

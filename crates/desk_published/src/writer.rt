@@ -6,18 +6,18 @@ ghost use mathlib.Core.List.{IsPrefix};
 ghost use Rattle.left_right.specs.Sides.{view};
 ghost use Rattle.desk_log.specs.SavedValue.{committed_entries};
 ghost use Rattle.desk_published.specs.PrefixRule.{has_seen};
-ghost use Rattle.desk_published.specs.Told.{is_request_at};
+ghost use Rattle.desk_published.specs.Reported.{is_request_at};
 ghost use Rattle.desk_published.specs.Writer.{as_list, EqualsPrefix, published, pending};
 ghost use Rattle.desk_published.specs.declared.limits.TheConstants.{HISTORY_ENTRIES};
-ghost use Rattle.desk_published.specs.declared.told.ToldWord.TheVariants as words;
+ghost use Rattle.desk_published.specs.declared.reported.ReportedWord.TheVariants as words;
 
 use crate::board_name::BoardName;
 use crate::history::{HistoryEnd, HistoryPrefix, NewHistory};
 use crate::limits::HISTORY_ENTRIES;
 use crate::published::{NextEntry, PublishedBoard};
 use crate::reader::BoardReader;
+use crate::reported::Reported;
 use crate::rule::{PrefixRule, Publish, SeatView};
-use crate::told::Told;
 use crossbeam_utils::rule::Protocol;
 use desk_log::Saved;
 use desk_types::{ClientId, Domain, Entry, Refusal, RequestNumber, WantOfMemory};
@@ -70,7 +70,7 @@ fn append_or_keep<B: BoardName>(
 )
     requires nothing { refused.old ≡ None }
     ensures desk { inner.new.desk ≡ inner.old.desk }
-    ensures kept { pending inner.new ++ as_list refused.new ≡ pending inner.old ++ next ∷ [] }
+    ensures preserved { pending inner.new ++ as_list refused.new ≡ pending inner.old ++ next ∷ [] }
 {
     drop(mem::replace(refused, inner.append(next).err()));
 }
@@ -273,9 +273,9 @@ impl<B: BoardName> BoardWriter<B> {
 
     /// Tells a client that its request is published, where the entry at the place is that request, and is published;
     /// `None` elsewhere.
-    pub fn tell(&self, client: ClientId, number: RequestNumber, place: u64) -> Option<Told<B>>
+    pub fn tell(&self, client: ClientId, number: RequestNumber, place: u64) -> Option<Reported<B>>
         ensures there { is_some result ≡ is_request_at (published self.now.inner) client number place }
-        ensures told { IfSome result (λ t. (t.published ≡ published self.now.inner)
+        ensures reported { IfSome result (λ t. (t.published ≡ published self.now.inner)
             × (t.client ≡ client) × (t.number ≡ number)
             × (t.word ≡ words.Published (length (published self.now.inner)))) }
     {
@@ -283,7 +283,7 @@ impl<B: BoardName> BoardWriter<B> {
     }
 
     /// Tells a client that its request was refused.
-    pub fn refuse(&self, client: ClientId, number: RequestNumber, refusal: Refusal) -> Told<B>
+    pub fn refuse(&self, client: ClientId, number: RequestNumber, refusal: Refusal) -> Reported<B>
         ensures published { result.published ≡ published self.now.inner }
         ensures request { (result.client ≡ client) × (result.number ≡ number) }
         ensures word { result.word ≡ words.Refused refusal }

@@ -13,12 +13,12 @@ use Rattle.desk_records.specs.Streams.{opened_bytes, IsHeldRecord}
 use Rattle.desk_records.proofs.RunSteps.{run_more, run_nil}
 
 -- what was read is held
-pub opened_kept : (block : List ℕ) (count : ℕ) (given held held' : List ℕ) (a b : Option (List ℕ)) →
+pub opened_preserved : (block : List ℕ) (count : ℕ) (given held held' : List ℕ) (a b : Option (List ℕ)) →
     Keeps (prepend_known held a) (prepend_known held' b) →
     Keeps (opened_bytes block count given held a) (opened_bytes block count given held' b)
-opened_kept block count given held held' None b k = tt
-opened_kept block count given held held' (Some x) None k = absurd k
-opened_kept block count given held held' (Some x) (Some y) k =
+opened_preserved block count given held held' None b k = tt
+opened_preserved block count given held held' (Some x) None k = absurd k
+opened_preserved block count given held held' (Some x) (Some y) k =
     ap (λ l. given ++ (record_run block count l).given) k
 
 -- a right record is opened
@@ -54,35 +54,35 @@ held_more (Some x) (Some y) None front more k c = absurd c
 held_more (Some x) (Some y) (Some z) front more k c = append_assoc front more z ∙ ap (λ l. front ++ l) (sym c) ∙ k
 
 -- a read that failed took nothing
-pub held_kept : (p a b : Option (List ℕ)) (front : List ℕ) → Keeps p (prepend_known front a) → Keeps a b →
+pub held_preserved : (p a b : Option (List ℕ)) (front : List ℕ) → Keeps p (prepend_known front a) → Keeps a b →
     Keeps p (prepend_known front b)
-held_kept None a b front k c = tt
-held_kept (Some x) None b front k c = absurd k
-held_kept (Some x) (Some y) None front k c = absurd c
-held_kept (Some x) (Some y) (Some z) front k c = ap (λ l. front ++ l) c ∙ k
+held_preserved None a b front k c = tt
+held_preserved (Some x) None b front k c = absurd k
+held_preserved (Some x) (Some y) None front k c = absurd c
+held_preserved (Some x) (Some y) (Some z) front k c = ap (λ l. front ++ l) c ∙ k
 
 -- ---- the record that a room holds
 
 -- its length, what it carries, and that nothing stands after it
 pub record HasRecord (carried held : ℕ) (room : List ℕ) : Type 0 where
   pub payload : payload_of (take held room) ≡ slice_range room LENGTH_BYTES (LENGTH_BYTES + carried)
-  pub behind : after_record (take held room) ≡ []
+  pub after : after_record (take held room) ≡ []
 
 pub held_record : (carried held : ℕ) (room : List ℕ) → IsHeldRecord carried held room → HasRecord carried held room
 held_record carried held room h =
     let is : held ≡ carried + OTHER_BYTES = h.held_is in
-    let told : payload_length (take held room) ≡ carried =
+    let announced : payload_length (take held room) ≡ carried =
     ap (from_be_bytes w32) (take-take LENGTH_BYTES held room (omega arith)) ∙ h.carried_is in
     let split : held ≡ LENGTH_BYTES + (carried + TAG_BYTES) = omega arith in
     let same : carried ≡ (LENGTH_BYTES + carried) - LENGTH_BYTES = omega arith in
     let short = length-take held room in
     record {
-      payload = ap (λ n. take n (drop LENGTH_BYTES (take held room))) told
+      payload = ap (λ n. take n (drop LENGTH_BYTES (take held room))) announced
           ∙ ap (λ n. take carried (drop LENGTH_BYTES (take n room))) split
           ∙ ap (take carried) (drop-take LENGTH_BYTES (carried + TAG_BYTES) room)
           ∙ take-take carried (carried + TAG_BYTES) (drop LENGTH_BYTES room) (omega arith)
           ∙ ap (λ n. take n (drop LENGTH_BYTES room)) same;
-      behind = ap (λ n. drop (n + OTHER_BYTES) (take held room)) told
+      after = ap (λ n. drop (n + OTHER_BYTES) (take held room)) announced
           ∙ drop_all (carried + OTHER_BYTES) (take held room) (omega arith);
     }
 
@@ -100,18 +100,19 @@ pub record_opened : (block : List ℕ) (count next carried held : ℕ) (room : L
 record_opened block count next carried held room a h more right =
     let has = held_record carried held room h in
     let next_is : suc count ≡ next = omega arith in
-    opened_right block count (take held room) a right has.behind
+    opened_right block count (take held room) a right has.after
     ∙ ap (λ l. opened_bytes block (suc count) l [] a) has.payload
     ∙ ap (λ n. opened_bytes block n (slice_range room LENGTH_BYTES (LENGTH_BYTES + carried)) [] a) next_is
 
 -- nothing was left, and what was read is held
-pub left_kept : (block : List ℕ) (count : ℕ) (given given' held held' : List ℕ) (a b : Option (List ℕ)) → given ≡ [] →
+pub left_preserved : (block : List ℕ) (count : ℕ) (given given' held held' : List ℕ) (a b : Option (List ℕ)) →
+    given ≡ [] →
     given' ≡ [] → Keeps (prepend_known held a) (prepend_known held' b) →
     Keeps (opened_bytes block count given held a) (opened_bytes block count given' held' b)
-left_kept block count given given' held held' a b e e' k =
+left_preserved block count given given' held held' a b e e' k =
     subst (λ l. Keeps (opened_bytes block count l held a) (opened_bytes block count given' held' b)) (sym e)
     (subst (λ l. Keeps (opened_bytes block count [] held a) (opened_bytes block count l held' b)) (sym e')
-    (opened_kept block count [] held held' a b k))
+    (opened_preserved block count [] held held' a b k))
 
 -- a part of what is left is given
 pub part_given : (block : List ℕ) (count : ℕ) (room : List ℕ) (from until k : ℕ) (held : List ℕ) (a : Option (List ℕ)) →

@@ -15,8 +15,8 @@ use Rattle.desk_records.specs.Records.{is_right, payload_length, payload_of, aft
 use Rattle.desk_records.proofs.Sames.{same_from_test, test_from_same}
 
 -- the tag that stands after n bytes and their length, and the one that is to stand there
-abbrev pub told_tag : ℕ → List ℕ → List ℕ
-told_tag n bytes = take TAG_BYTES (drop (n + LENGTH_BYTES) bytes)
+abbrev pub announced_tag : ℕ → List ℕ → List ℕ
+announced_tag n bytes = take TAG_BYTES (drop (n + LENGTH_BYTES) bytes)
 
 abbrev pub wanted_tag : List ℕ → ℕ → ℕ → List ℕ → List ℕ
 wanted_tag block count n bytes = tag_under block (to_be_bytes w64 count ++ take (n + LENGTH_BYTES) bytes)
@@ -26,7 +26,7 @@ pub record RightParts (block : List ℕ) (count : ℕ) (bytes : List ℕ) : Type
   pub least : 1 ≤ payload_length bytes
   pub most : payload_length bytes ≤ RECORD_BYTES
   pub long : payload_length bytes + OTHER_BYTES ≤ length bytes
-  pub tag : told_tag (payload_length bytes) bytes ≡ wanted_tag block count (payload_length bytes) bytes
+  pub tag : announced_tag (payload_length bytes) bytes ≡ wanted_tag block count (payload_length bytes) bytes
 
 pub right_parts : (block : List ℕ) (count : ℕ) (bytes : List ℕ) → is_right block count bytes ≡ true →
     RightParts block count bytes
@@ -34,15 +34,15 @@ unfolding is_right
 right_parts block count bytes h =
     let n = payload_length bytes in
     let halves = and_parts (leb 1 n && leb n RECORD_BYTES) (leb (n + OTHER_BYTES) (length bytes)
-    && are_same (told_tag n bytes) (wanted_tag block count n bytes)) h in
+    && are_same (announced_tag n bytes) (wanted_tag block count n bytes)) h in
     let sizes = and_parts (leb 1 n) (leb n RECORD_BYTES) halves.0 in
     let others = and_parts (leb (n + OTHER_BYTES) (length bytes))
-    (are_same (told_tag n bytes) (wanted_tag block count n bytes)) halves.1 in
+    (are_same (announced_tag n bytes) (wanted_tag block count n bytes)) halves.1 in
     record {
       least = leb-true 1 n sizes.0;
       most = leb-true n RECORD_BYTES sizes.1;
       long = leb-true (n + OTHER_BYTES) (length bytes) others.0;
-      tag = same_from_test (told_tag n bytes) (wanted_tag block count n bytes) others.1;
+      tag = same_from_test (announced_tag n bytes) (wanted_tag block count n bytes) others.1;
     }
 
 pub right_from : (block : List ℕ) (count : ℕ) (bytes : List ℕ) → RightParts block count bytes →
@@ -51,11 +51,11 @@ unfolding is_right
 right_from block count bytes p =
     let n = payload_length bytes in
     and_from (leb 1 n && leb n RECORD_BYTES) (leb (n + OTHER_BYTES) (length bytes)
-    && are_same (told_tag n bytes) (wanted_tag block count n bytes))
+    && are_same (announced_tag n bytes) (wanted_tag block count n bytes))
     (and_from (leb 1 n) (leb n RECORD_BYTES) (le-leb 1 n p.least) (le-leb n RECORD_BYTES p.most))
-    (and_from (leb (n + OTHER_BYTES) (length bytes)) (are_same (told_tag n bytes) (wanted_tag block count n bytes))
+    (and_from (leb (n + OTHER_BYTES) (length bytes)) (are_same (announced_tag n bytes) (wanted_tag block count n bytes))
     (le-leb (n + OTHER_BYTES) (length bytes) p.long)
-    (test_from_same (told_tag n bytes) (wanted_tag block count n bytes) p.tag))
+    (test_from_same (announced_tag n bytes) (wanted_tag block count n bytes) p.tag))
 
 -- ---- more bytes after a right record
 
@@ -71,7 +71,7 @@ right_more block count xs ys h =
     let e : payload_length (xs ++ ys) ≡ payload_length xs = length_more xs ys (omega arith) in
     let room : TAG_BYTES ≤ length (drop (payload_length xs + LENGTH_BYTES) xs) =
     omega (arith, length-drop (payload_length xs + LENGTH_BYTES) xs) in
-    let told : told_tag n (xs ++ ys) ≡ told_tag n xs =
+    let announced : announced_tag n (xs ++ ys) ≡ announced_tag n xs =
     ap (take TAG_BYTES) (drop-append-le (n + LENGTH_BYTES) xs ys (omega arith))
     ∙ take-append-le TAG_BYTES (drop (n + LENGTH_BYTES) xs) ys room in
     let wanted : wanted_tag block count n (xs ++ ys) ≡ wanted_tag block count n xs =
@@ -80,8 +80,8 @@ right_more block count xs ys h =
       least = subst (λ m. 1 ≤ m) (sym e) p.least;
       most = subst (λ m. m ≤ RECORD_BYTES) (sym e) p.most;
       long = subst (λ m. m + OTHER_BYTES ≤ length (xs ++ ys)) (sym e) (omega (arith, length-append xs ys));
-      tag = subst (λ m. told_tag m (xs ++ ys) ≡ wanted_tag block count m (xs ++ ys)) (sym e)
-          (told ∙ p.tag ∙ sym wanted);
+      tag = subst (λ m. announced_tag m (xs ++ ys) ≡ wanted_tag block count m (xs ++ ys)) (sym e)
+          (announced ∙ p.tag ∙ sym wanted);
     }
 
 pub payload_more : (block : List ℕ) (count : ℕ) (xs ys : List ℕ) → is_right block count xs ≡ true →
@@ -94,9 +94,9 @@ payload_more block count xs ys h =
     ∙ ap (take n) (drop-append-le LENGTH_BYTES xs ys (omega arith))
     ∙ take-append-le n (drop LENGTH_BYTES xs) ys room
 
-pub behind_more : (block : List ℕ) (count : ℕ) (xs ys : List ℕ) → is_right block count xs ≡ true →
+pub after_more : (block : List ℕ) (count : ℕ) (xs ys : List ℕ) → is_right block count xs ≡ true →
     after_record (xs ++ ys) ≡ after_record xs ++ ys
-behind_more block count xs ys h =
+after_more block count xs ys h =
     let n = payload_length xs in
     let long : payload_length xs + OTHER_BYTES ≤ length xs = (right_parts block count xs h).long in
     ap (λ m. drop (m + OTHER_BYTES) (xs ++ ys)) (length_more xs ys (omega arith))
@@ -121,9 +121,9 @@ length_of_record block count payload =
     let front = front_length payload in
     length-append (front_of payload) (tag_of block count payload) ∙ omega arith
 
-pub told_of_record : (block : List ℕ) (count : ℕ) (payload : List ℕ) → length payload ≤ RECORD_BYTES →
+pub announced_of_record : (block : List ℕ) (count : ℕ) (payload : List ℕ) → length payload ≤ RECORD_BYTES →
     payload_length (record_bytes block count payload) ≡ length payload
-told_of_record block count payload most = from_be_bytes-to_be_bytes_4 (length payload) (omega arith)
+announced_of_record block count payload most = from_be_bytes-to_be_bytes_4 (length payload) (omega arith)
 
 pub right_of_record : (block : List ℕ) (count : ℕ) (payload : List ℕ) → 1 ≤ length payload →
     length payload ≤ RECORD_BYTES →
@@ -132,10 +132,10 @@ right_of_record block count payload least most =
     let bytes = record_bytes block count payload in
     let n = length payload in
     let e : payload_length (record_bytes block count payload) ≡ length payload =
-    told_of_record block count payload most in
+    announced_of_record block count payload most in
     let front : take (n + LENGTH_BYTES) bytes ≡ front_of payload =
     take_at (front_of payload) (tag_of block count payload) (n + LENGTH_BYTES) (front_length payload) in
-    let told : told_tag n bytes ≡ tag_of block count payload =
+    let announced : announced_tag n bytes ≡ tag_of block count payload =
     ap (take TAG_BYTES)
     (drop_at (front_of payload) (tag_of block count payload) (n + LENGTH_BYTES) (front_length payload))
     ∙ take_all TAG_BYTES (tag_of block count payload)
@@ -146,19 +146,20 @@ right_of_record block count payload least most =
       least = subst (λ m. 1 ≤ m) (sym e) least;
       most = subst (λ m. m ≤ RECORD_BYTES) (sym e) most;
       long = subst (λ m. m + OTHER_BYTES ≤ length bytes) (sym e) (omega (arith, length_of_record block count payload));
-      tag = subst (λ m. told_tag m bytes ≡ wanted_tag block count m bytes) (sym e) (told ∙ sym wanted);
+      tag = subst (λ m. announced_tag m bytes ≡ wanted_tag block count m bytes) (sym e) (announced ∙ sym wanted);
     }
 
 pub payload_of_record : (block : List ℕ) (count : ℕ) (payload : List ℕ) → length payload ≤ RECORD_BYTES →
     payload_of (record_bytes block count payload) ≡ payload
 payload_of_record block count payload most =
-    ap (λ m. take m (drop LENGTH_BYTES (record_bytes block count payload))) (told_of_record block count payload most)
+    ap (λ m. take m (drop LENGTH_BYTES (record_bytes block count payload)))
+    (announced_of_record block count payload most)
     ∙ take_at payload (tag_of block count payload) (length payload) refl
 
-pub behind_of_record : (block : List ℕ) (count : ℕ) (payload : List ℕ) → length payload ≤ RECORD_BYTES →
+pub after_of_record : (block : List ℕ) (count : ℕ) (payload : List ℕ) → length payload ≤ RECORD_BYTES →
     after_record (record_bytes block count payload) ≡ []
-behind_of_record block count payload most =
-    ap (λ m. drop (m + OTHER_BYTES) (record_bytes block count payload)) (told_of_record block count payload most)
+after_of_record block count payload most =
+    ap (λ m. drop (m + OTHER_BYTES) (record_bytes block count payload)) (announced_of_record block count payload most)
     ∙ drop_all (length payload + OTHER_BYTES) (record_bytes block count payload)
     (omega (arith, length_of_record block count payload))
 
@@ -175,5 +176,5 @@ cut_not_right block count payload sent most cut = false_from_ne_true _ (λ h.
     let four : LENGTH_BYTES ≤ sent = omega arith in
     let same : payload_length (take sent (record_bytes block count payload)) ≡ length payload =
     ap (from_be_bytes w32) (take-take LENGTH_BYTES sent (record_bytes block count payload) four)
-    ∙ told_of_record block count payload most in
+    ∙ announced_of_record block count payload most in
     absurd (omega (arith, length_of_record block count payload)))

@@ -6,8 +6,8 @@ use Rattle.std.proofs.lemmas.List.{length-drop}
 use Rattle.desk_records.specs.declared.record.TheConstants.{RECORD_BYTES, OTHER_BYTES}
 use Rattle.desk_records.specs.Records.{RecordRun, with_first, run_of_most, record_run, is_right}
 use Rattle.desk_records.specs.Records.{payload_length, payload_of, after_record, record_bytes}
-use Rattle.desk_records.proofs.Rights.{right_parts, right_more, payload_more, behind_more}
-use Rattle.desk_records.proofs.Rights.{right_of_record, payload_of_record, behind_of_record}
+use Rattle.desk_records.proofs.Rights.{right_parts, right_more, payload_more, after_more}
+use Rattle.desk_records.proofs.Rights.{right_of_record, payload_of_record, after_of_record}
 
 -- a run of no record
 abbrev pub no_run : ℕ → List ℕ → RecordRun
@@ -21,9 +21,9 @@ few_not_right block count bytes few = false_from_ne_true _ (λ h.
     absurd (omega arith))
 
 -- what stands after a right record is shorter
-behind_shorter : (block : List ℕ) (count : ℕ) (bytes : List ℕ) → is_right block count bytes ≡ true →
+after_shorter : (block : List ℕ) (count : ℕ) (bytes : List ℕ) → is_right block count bytes ≡ true →
     length (after_record bytes) + 1 ≤ length bytes
-behind_shorter block count bytes h =
+after_shorter block count bytes h =
     let long : payload_length bytes + OTHER_BYTES ≤ length bytes = (right_parts block count bytes h).long in
     omega (arith, length-drop (payload_length bytes + OTHER_BYTES) bytes)
 
@@ -50,7 +50,7 @@ enough (suc f) zero block count bytes p q =
     most_none (suc f) block count bytes wrong ∙ sym (most_none zero block count bytes wrong)
 enough (suc f) (suc g) block count bytes p q = elim (cases_Bool (is_right block count bytes)) [
   | inl right ↦
-      let shorter = behind_shorter block count bytes right in
+      let shorter = after_shorter block count bytes right in
       most_step f block count bytes right
       ∙ ap (with_first (payload_of bytes))
       (enough f g block (suc count) (after_record bytes) (omega arith) (omega arith))
@@ -70,7 +70,7 @@ run_nil block count = run_none block count [] (few_not_right block count [] (ome
 pub run_step : (block : List ℕ) (count : ℕ) (bytes : List ℕ) → is_right block count bytes ≡ true →
     record_run block count bytes ≡ with_first (payload_of bytes) (record_run block (suc count) (after_record bytes))
 run_step block count bytes right =
-    let shorter = behind_shorter block count bytes right in
+    let shorter = after_shorter block count bytes right in
     enough (length bytes) (suc (length bytes)) block count bytes (omega arith) (omega arith)
     ∙ most_step (length bytes) block count bytes right
     ∙ ap (with_first (payload_of bytes))
@@ -85,7 +85,7 @@ run_more block count xs ys right =
     run_step block count (xs ++ ys) (right_more block count xs ys right)
     ∙ ap (λ l. with_first l (record_run block (suc count) (after_record (xs ++ ys))))
     (payload_more block count xs ys right)
-    ∙ ap (λ l. with_first (payload_of xs) (record_run block (suc count) l)) (behind_more block count xs ys right)
+    ∙ ap (λ l. with_first (payload_of xs) (record_run block (suc count) l)) (after_more block count xs ys right)
 
 -- a sealed record with more after it
 pub run_of_record : (block : List ℕ) (count : ℕ) (payload ys : List ℕ) → 1 ≤ length payload →
@@ -96,7 +96,7 @@ run_of_record block count payload ys least most =
     run_more block count (record_bytes block count payload) ys (right_of_record block count payload least most)
     ∙ ap (λ l. with_first l (record_run block (suc count) (after_record (record_bytes block count payload) ++ ys)))
     (payload_of_record block count payload most)
-    ∙ ap (λ l. with_first payload (record_run block (suc count) (l ++ ys))) (behind_of_record block count payload most)
+    ∙ ap (λ l. with_first payload (record_run block (suc count) (l ++ ys))) (after_of_record block count payload most)
 
 -- a run that leaves nothing goes on with what comes after
 abbrev Goes : List ℕ → RecordRun → List ℕ → RecordRun
@@ -125,7 +125,7 @@ go_on zero block count xs ys within none = go_none block count xs ys none (few_n
 go_on (suc most) block count xs ys within none = elim (cases_Bool (is_right block count xs)) [
   | inr wrong ↦ go_none block count xs ys none wrong
   | inl right ↦
-      let shorter = behind_shorter block count xs right in
+      let shorter = after_shorter block count xs right in
       let steps = run_step block count xs right in
       let rest : (record_run block (suc count) (after_record xs)).rest ≡ [] =
       sym (ap (λ (r : RecordRun). r.rest) steps) ∙ none in
@@ -152,7 +152,7 @@ ends_wrong zero block count bytes within =
 ends_wrong (suc most) block count bytes within = elim (cases_Bool (is_right block count bytes)) [
   | inr wrong ↦ subst (EndsWrong block) (sym (most_none (suc most) block count bytes wrong)) wrong
   | inl right ↦
-      let shorter = behind_shorter block count bytes right in
+      let shorter = after_shorter block count bytes right in
       subst (EndsWrong block) (sym (most_step most block count bytes right))
       (ends_wrong most block (suc count) (after_record bytes) (omega arith))
 ]

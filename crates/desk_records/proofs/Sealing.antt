@@ -49,9 +49,9 @@ given_cut block count bytes payload sent s most cut =
     ∙ append-nil given
 
 -- what stands after the first bytes grows by what is written
-behind_grows : (first now more : List ℕ) (bytes : List ℕ) → since_first (Some first) (Some now) ≡ Some bytes →
+after_grows : (first now more : List ℕ) (bytes : List ℕ) → since_first (Some first) (Some now) ≡ Some bytes →
     since_first (Some first) (Some (now ++ more)) ≡ Some (bytes ++ more)
-behind_grows first now more bytes e = elim (cases_Bool (leb (length first) (length now))) [
+after_grows first now more bytes e = elim (cases_Bool (leb (length first) (length now))) [
   | inl long ↦
       let within = leb-true (length first) (length now) long in
       let is_drop = same_Some (drop (length first) now) bytes
@@ -65,20 +65,20 @@ behind_grows first now more bytes e = elim (cases_Bool (leb (length first) (leng
 
 -- what is known of a writer
 abbrev Given : List ℕ → Option (List ℕ) → Option (List ℕ)
-Given block behind = option_map (λ bytes. (record_run block 0 bytes).given) behind
+Given block after = option_map (λ bytes. (record_run block 0 bytes).given) after
 
-pub record StandsKnown (block : List ℕ) (count : ℕ) (behind : Option (List ℕ)) : Type 0 where
-  pub count_is : option_map (λ bytes. (record_run block 0 bytes).count) behind ≡ option_map (λ bytes. count) behind
-  pub rest_is : option_map (λ bytes. (record_run block 0 bytes).rest) behind ≡ option_map (λ bytes. []) behind
+pub record StandsKnown (block : List ℕ) (count : ℕ) (after : Option (List ℕ)) : Type 0 where
+  pub count_is : option_map (λ bytes. (record_run block 0 bytes).count) after ≡ option_map (λ bytes. count) after
+  pub rest_is : option_map (λ bytes. (record_run block 0 bytes).rest) after ≡ option_map (λ bytes. []) after
 
 -- a known value of an `Option`
 some_value : (o : Option (List ℕ)) → is_some o ≡ true → (bytes : List ℕ) × (o ≡ Some bytes)
 some_value None h = absurd (false≢true h)
 some_value (Some bytes) h = (bytes, refl)
 
-stands_at : (block : List ℕ) (count : ℕ) (behind : Option (List ℕ)) (bytes : List ℕ) → behind ≡ Some bytes →
-    StandsKnown block count behind → Stands block count bytes
-stands_at block count behind bytes e k =
+stands_at : (block : List ℕ) (count : ℕ) (after : Option (List ℕ)) (bytes : List ℕ) → after ≡ Some bytes →
+    StandsKnown block count after → Stands block count bytes
+stands_at block count after bytes e k =
     let at : StandsKnown block count (Some bytes) = subst (StandsKnown block count) e k in
     record { count_is = same_Some _ _ at.count_is; rest_is = same_Some _ _ at.rest_is }
 
@@ -118,7 +118,7 @@ sealed_more block (Some f) (Some x) (Some y) count payload known next whole leas
     let s = stands_at block count (since_first (Some f) (Some x)) bytes old.1
     record { count_is = next; rest_is = whole } in
     let grown : since_first (Some f) (Some y) ≡ Some (bytes ++ record_bytes block count payload) =
-    ap (λ l. since_first (Some f) (Some l)) a ∙ behind_grows f x (record_bytes block count payload) bytes old.1 in
+    ap (λ l. since_first (Some f) (Some l)) a ∙ after_grows f x (record_bytes block count payload) bytes old.1 in
     let all = sealed_known block count payload bytes s least most in
     let stands : StandsKnown block (count + 1) (since_first (Some f) (Some y)) =
     subst (StandsKnown block (count + 1)) (sym grown) all.1 in
@@ -146,32 +146,32 @@ sealed_cut block (Some f) (Some x) (Some y) count payload sent known next whole 
     let s = stands_at block count (since_first (Some f) (Some x)) bytes old.1
     record { count_is = next; rest_is = whole } in
     let grown : since_first (Some f) (Some y) ≡ Some (bytes ++ part) =
-    ap (λ l. since_first (Some f) (Some l)) a ∙ behind_grows f x part bytes old.1 in
+    ap (λ l. since_first (Some f) (Some l)) a ∙ after_grows f x part bytes old.1 in
     subst (λ o. Keeps (Given block o) (Given block (since_first (Some f) (Some y)))) (sym old.1)
     (subst (λ o. Keeps (Given block (Some bytes)) (Given block o)) (sym grown)
     (given_cut block count bytes payload sent s most cut))
 
 -- the inner writer keeps what it holds
-pub record IsKept (block : List ℕ) (first now new : Option (List ℕ)) (count : ℕ) : Type 0 where
+pub record IsPreserved (block : List ℕ) (first now new : Option (List ℕ)) (count : ℕ) : Type 0 where
   pub known : IsKnownStill first new
   pub next : IsNextCount block first new count
   pub whole : IsWholeRun block first new
 
-pub sealed_kept : (block : List ℕ) (first now new : Option (List ℕ)) → Keeps now new →
+pub sealed_preserved : (block : List ℕ) (first now new : Option (List ℕ)) → Keeps now new →
     Keeps (sealed_bytes block first now) (sealed_bytes block first new)
-sealed_kept block None now new k = tt
-sealed_kept block (Some f) None new k = tt
-sealed_kept block (Some f) (Some x) None k = absurd k
-sealed_kept block (Some f) (Some x) (Some y) k =
+sealed_preserved block None now new k = tt
+sealed_preserved block (Some f) None new k = tt
+sealed_preserved block (Some f) (Some x) None k = absurd k
+sealed_preserved block (Some f) (Some x) (Some y) k =
     rw k (Keeps-refl (sealed_bytes block (Some f) (Some x)))
 
-pub stands_kept : (block : List ℕ) (first now new : Option (List ℕ)) (count : ℕ) → Keeps now new →
+pub stands_preserved : (block : List ℕ) (first now new : Option (List ℕ)) (count : ℕ) → Keeps now new →
     IsKnownStill first now → IsNextCount block first now count → IsWholeRun block first now →
-    IsKept block first now new count
-stands_kept block None now new count k known next whole = record { known = refl; next = refl; whole = refl }
-stands_kept block (Some f) None new count k known next whole = absurd (false≢true known)
-stands_kept block (Some f) (Some x) None count k known next whole = absurd k
-stands_kept block (Some f) (Some x) (Some y) count k known next whole =
+    IsPreserved block first now new count
+stands_preserved block None now new count k known next whole = record { known = refl; next = refl; whole = refl }
+stands_preserved block (Some f) None new count k known next whole = absurd (false≢true known)
+stands_preserved block (Some f) (Some x) None count k known next whole = absurd k
+stands_preserved block (Some f) (Some x) (Some y) count k known next whole =
     record {
       known = subst (λ l. IsKnownStill (Some f) (Some l)) (sym k) known;
       next = subst (λ l. IsNextCount block (Some f) (Some l) count) (sym k) next;
@@ -185,15 +185,15 @@ pub record IsFresh (block : List ℕ) (first : Option (List ℕ)) : Type 0 where
   pub next : IsNextCount block first first 0
   pub whole : IsWholeRun block first first
 
-behind_fresh : (f : List ℕ) → since_first (Some f) (Some f) ≡ Some []
-behind_fresh f =
+after_fresh : (f : List ℕ) → since_first (Some f) (Some f) ≡ Some []
+after_fresh f =
     cond-true (leb (length f) (length f)) (Some (drop (length f) f)) None (le-leb (length f) (length f) (omega arith))
     ∙ ap (λ l. Some l) (drop_all (length f) f (omega arith))
 
 pub fresh : (block : List ℕ) (first : Option (List ℕ)) → IsFresh block first
 fresh block None = record { bytes = refl; known = refl; next = refl; whole = refl }
 fresh block (Some f) =
-    let e = behind_fresh f in
+    let e = after_fresh f in
     let nil = run_nil block 0 in
     record {
       bytes = ap (Given block) e ∙ ap (λ (r : RecordRun). Some r.given) nil;
@@ -213,9 +213,9 @@ sealing_after block first now new count payload (Some n) is s =
     subst (λ m. IsRun block first new (Some m)) (sym is) (s.known, s.next, s.whole)
 
 -- the inner writer keeps what it holds, and the count stays
-pub sealing_kept : (block : List ℕ) (first now new : Option (List ℕ)) (count : Option ℕ) → Keeps now new →
+pub sealing_preserved : (block : List ℕ) (first now new : Option (List ℕ)) (count : Option ℕ) → Keeps now new →
     IsRun block first now count → IsRun block first new count
-sealing_kept block first now new None k s = tt
-sealing_kept block first now new (Some n) k s =
-    let kept = stands_kept block first now new n k s.0 s.1 s.2 in
-    (kept.known, kept.next, kept.whole)
+sealing_preserved block first now new None k s = tt
+sealing_preserved block first now new (Some n) k s =
+    let preserved = stands_preserved block first now new n k s.0 s.1 s.2 in
+    (preserved.known, preserved.next, preserved.whole)

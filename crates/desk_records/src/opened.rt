@@ -63,7 +63,7 @@ fn collect<R: Read>(
 ) -> (usize, io::Result<bool>)
     requires first { first ≤ wanted }
     requires wanted { wanted ≤ length room.old }
-    ensures kept { Keeps (prepend_known (take first room.old) (R.remaining inner.old))
+    ensures preserved { Keeps (prepend_known (take first room.old) (R.remaining inner.old))
         (prepend_known (take result.0 room.new) (R.remaining inner.new)) }
     ensures room { length room.new ≡ length room.old }
     ensures within { result.0 ≤ wanted }
@@ -110,7 +110,7 @@ impl<R: Read> Opened<R> {
         requires held { self.old.held ≤ wanted }
         requires wanted { wanted ≤ ROOM_BYTES }
         requires given { self.old.from ≡ self.old.until }
-        ensures kept { Keeps (prepend_known (take self.old.held self.old.room.items) (R.remaining self.old.inner))
+        ensures preserved { Keeps (prepend_known (take self.old.held self.old.room.items) (R.remaining self.old.inner))
             (prepend_known (take self.new.held self.new.room.items) (R.remaining self.new.inner)) }
         ensures key { self.new.key ≡ self.old.key }
         ensures count { self.new.count ≡ self.old.count }
@@ -130,7 +130,7 @@ impl<R: Read> Opened<R> {
     fn hold_record(&mut self) -> io::Result<Option<usize>>
         requires held { self.old.held ≡ 0 }
         requires given { self.old.from ≡ self.old.until }
-        ensures kept { Keeps (prepend_known (take self.old.held self.old.room.items) (R.remaining self.old.inner))
+        ensures preserved { Keeps (prepend_known (take self.old.held self.old.room.items) (R.remaining self.old.inner))
             (prepend_known (take self.new.held self.new.room.items) (R.remaining self.new.inner)) }
         ensures key { self.new.key ≡ self.old.key }
         ensures count { self.new.count ≡ self.old.count }
@@ -168,7 +168,7 @@ impl<R: Read> Opened<R> {
             (slice_range self.new.room.items self.new.from self.new.until) (take self.new.held self.new.room.items)
             (R.remaining self.new.inner)) }
         ensures some { OnOk result (self.new.from < self.new.until) }
-        ensures kept { OnErr result ((self.new.inner ≡ self.old.inner) × (self.new.room ≡ self.old.room)) }
+        ensures preserved { OnErr result ((self.new.inner ≡ self.old.inner) × (self.new.room ≡ self.old.room)) }
         ensures same { OnErr result ((self.new.count ≡ self.old.count) × (self.new.held ≡ self.old.held)) }
         ensures left { OnErr result (self.new.from ≡ self.new.until) }
         ensures key { self.new.key ≡ self.old.key }
@@ -190,7 +190,7 @@ impl<R: Read> Opened<R> {
     /// Opens the next record. It is false at the end of the reader.
     fn open_next(&mut self) -> io::Result<bool>
         requires { self.old.from ≡ self.old.until }
-        ensures kept { Keeps
+        ensures preserved { Keeps
             (opened_bytes self.old.key.block.value self.old.count
             (slice_range self.old.room.items self.old.from self.old.until) (take self.old.held self.old.room.items)
             (R.remaining self.old.inner))

@@ -25,9 +25,9 @@ pub(crate) fn payload_length(bytes: &[u8]) -> usize
     requires { LENGTH_BYTES ≤ length bytes.now }
     ensures { result ≡ payload_length bytes.now }
 {
-    let mut told = [0; LENGTH_BYTES];
-    told.copy_from_slice(&bytes[..LENGTH_BYTES]);
-    u32::from_be_bytes(told) as usize
+    let mut announced = [0; LENGTH_BYTES];
+    announced.copy_from_slice(&bytes[..LENGTH_BYTES]);
+    u32::from_be_bytes(announced) as usize
 }
 
 /// The tag that stands after so many bytes of a record.

@@ -11,7 +11,7 @@ use Rattle.desk_mailbox.specs.declared.item.Item.{Item}
 use Rattle.desk_mailbox.specs.declared.item.Item.TheVariants as items
 use Rattle.desk_log.specs.declared.state_store.StateStore.{Ghosts as StoreGhosts}
 use Rattle.desk_threads.specs.declared.handing.Out.{Ghosts}
-use Rattle.desk_threads.specs.KeptValue.{KeptValue, DoesItems}
+use Rattle.desk_threads.specs.OwnedValue.{OwnedValue, DoesItems}
 use Rattle.desk_threads.specs.Runs.{Stand}
 use Rattle.desk_network.specs.Queued.{HasQueued}
 use Rattle.desk_network.specs.Putting.{QueueEnds, PutsIntoQueues}
@@ -38,13 +38,13 @@ all_handed ps qs i [] f h = tt
 all_handed ps qs i (item ∷ more) f h = (handed_too ps qs i item f h.0, all_handed ps qs i more f h.1)
 
 -- the group with another keeper of node i, after these packets
-abbrev with_keeper : Keepers → ℕ → KeptValue → List (ℕ × Message) → Keepers
-with_keeper k i kept packets =
-    record { keepers = λ j. if eqb j i then kept else k.keepers j; handed = k.handed ++ packets }
+abbrev with_keeper : Keepers → ℕ → OwnedValue → List (ℕ × Message) → Keepers
+with_keeper k i owned packets =
+    record { keepers = λ j. if eqb j i then owned else k.keepers j; handed = k.handed ++ packets }
 
-becomes : (n i : ℕ) (k : Keepers) (kept : KeptValue) (packets : List (ℕ × Message)) → i < n →
-    KeeperBecomes n i k kept (with_keeper k i kept packets)
-becomes n i k kept packets small =
+becomes : (n i : ℕ) (k : Keepers) (owned : OwnedValue) (packets : List (ℕ × Message)) → i < n →
+    KeeperBecomes n i k owned (with_keeper k i owned packets)
+becomes n i k owned packets small =
     let here : eqb i i ≡ true = eq-eqb i i refl in
     record {
       is_node = small;
@@ -60,11 +60,11 @@ module _ {O S : Type 0} (g : Ghosts O) (s : StoreGhosts S) (ends : O → QueueEn
       queued_was_handed (ends old) (ends new) packets sent
       (subst (λ (ps : List (ℕ × Message)). HasQueued (ends old) ps (ends new)) same (puts old new handed gave)) put
 
-  follows : (i : ℕ) (old new : Nodes O S) (out : O) (k : Keepers) (kept : KeptValue) (packets : List (ℕ × Message)) →
-      AreGroup old k → OneChanges ends n i old out new → (new.stands i).kept ≡ kept →
+  follows : (i : ℕ) (old new : Nodes O S) (out : O) (k : Keepers) (owned : OwnedValue) (packets : List (ℕ × Message)) →
+      AreGroup old k → OneChanges ends n i old out new → (new.stands i).owned ≡ owned →
       ((sent : ℕ × Message) → WasPut (ends (old.stands i).out) (ends out) sent → Contains packets sent) →
-      AreGroup new (with_keeper k i kept packets)
-  follows i old new out k kept packets are one is put = record {
+      AreGroup new (with_keeper k i owned packets)
+  follows i old new out k owned packets are one is put = record {
     keepers = λ j. by_node j (cases_eq j i);
     handed = λ sent c. ⊎_elim
         (λ a. Contains-append_left k.handed packets sent (are.handed sent a))
@@ -72,20 +72,20 @@ module _ {O S : Type 0} (g : Ghosts O) (s : StoreGhosts S) (ends : O → QueueEn
         (one.queued sent c);
   }
     where
-      by_node : (j : ℕ) → (j ≡ i) ⊎ (j ≢ i) → (with_keeper k i kept packets).keepers j ≡ (new.stands j).kept
+      by_node : (j : ℕ) → (j ≡ i) ⊎ (j ≢ i) → (with_keeper k i owned packets).keepers j ≡ (new.stands j).owned
       by_node j (inl e) =
           let test : eqb j i ≡ true = eq-eqb j i e in
-          rw test (subst (λ (l : ℕ). kept ≡ (new.stands l).kept) (sym e) (sym is))
+          rw test (subst (λ (l : ℕ). owned ≡ (new.stands l).owned) (sym e) (sym is))
       by_node j (inr ne) =
           let test : eqb j i ≡ false = ne_eqb j i ne in
-          rw test (are.keepers j ∙ ap (λ (x : Stand O S). x.kept) (sym (one.there j ne)))
+          rw test (are.keepers j ∙ ap (λ (x : Stand O S). x.owned) (sym (one.there j ne)))
 
   one_turn : (i : ℕ) (old : Nodes O S) (k : Keepers) (turn : List Item) (packets : List (ℕ × Message))
-      (kept : KeptValue) → AreGroup old k → AllByRecursion (WasHanded old.queued i) turn →
-      DoesItems (old.stands i).kept turn packets kept → OneTurn i k turn packets kept
-  one_turn i old k turn packets kept are brought does = record {
+      (owned : OwnedValue) → AreGroup old k → AllByRecursion (WasHanded old.queued i) turn →
+      DoesItems (old.stands i).owned turn packets owned → OneTurn i k turn packets owned
+  one_turn i old k turn packets owned are brought does = record {
     handed = all_handed old.queued k.handed i turn are.handed brought;
-    does = subst (λ (x : KeptValue). DoesItems x turn packets kept) (sym (are.keepers i)) does;
+    does = subst (λ (x : OwnedValue). DoesItems x turn packets owned) (sym (are.keepers i)) does;
   }
 
   -- one act leads to a group with the keepers of these nodes
@@ -106,54 +106,54 @@ module _ {O S : Type 0} (g : Ghosts O) (s : StoreGhosts S) (ends : O → QueueEn
       AllByRecursion (WasHanded old.queued i) turn →
       (e : EndsIn g domain n i turn count (old.stands i) out (new.stands i)) → OneChanges ends n i old out new →
       OneAct k new
-  ended i turn count old new out k are brought e one = ⊎_elim before behind e.saved
+  ended i turn count old new out k are brought e one = ⊎_elim before after e.saved
     where
-      before : (e.found ≡ (old.stands i).kept.node.saved) × (e.handed ≡ []) → OneAct k new
+      before : (e.found ≡ (old.stands i).owned.node.saved) × (e.handed ≡ []) → OneAct k new
       before is =
-          let kept : KeptValue = started domain n i (k.keepers i).node.saved in
+          let owned : OwnedValue = started domain n i (k.keepers i).node.saved in
           let found : e.found ≡ (k.keepers i).node.saved =
-          is.0 ∙ ap (λ (x : KeptValue). x.node.saved) (sym (are.keepers i)) in
+          is.0 ∙ ap (λ (x : OwnedValue). x.node.saved) (sym (are.keepers i)) in
           record {
             act = Restarts i;
-            group = with_keeper k i kept [];
-            happens = (becomes n i k kept [] one.is_node, append-nil k.handed);
-            are = follows i old new out k kept [] are one (e.starts ∙ ap (started domain n i) found)
+            group = with_keeper k i owned [];
+            happens = (becomes n i k owned [] one.is_node, append-nil k.handed);
+            are = follows i old new out k owned [] are one (e.starts ∙ ap (started domain n i) found)
                 (put_was_handed (old.stands i).out out e.handed [] is.1 e.gave);
           }
 
-      behind : (e.found ≡ e.kept.node.saved) × (e.handed ≡ take count e.packets) → OneAct k new
-      behind is =
-          let kept : KeptValue = started domain n i e.kept.node.saved in
+      after : (e.found ≡ e.owned.node.saved) × (e.handed ≡ take count e.packets) → OneAct k new
+      after is =
+          let owned : OwnedValue = started domain n i e.owned.node.saved in
           let some : List (ℕ × Message) = take count e.packets in
           record {
             act = Breaks i turn count;
-            group = with_keeper k i kept some;
+            group = with_keeper k i owned some;
             happens = (
-              e.kept,
+              e.owned,
               e.packets,
-              one_turn i old k turn e.packets e.kept are brought e.does,
-              becomes n i k kept some one.is_node,
+              one_turn i old k turn e.packets e.owned are brought e.does,
+              becomes n i k owned some one.is_node,
               refl,
             );
-            are = follows i old new out k kept some are one (e.starts ∙ ap (started domain n i) is.0)
+            are = follows i old new out k owned some are one (e.starts ∙ ap (started domain n i) is.0)
                 (put_was_handed (old.stands i).out out e.handed some is.1 e.gave);
           }
 
   changes_act : (old new : Nodes O S) (change : NodeChange) (k : Keepers) → AreGroup old k →
       ChangesTo g s ends most domain n old change new → OneAct k new
   changes_act old new (Turns i turn) k are (brought, took, one) =
-      let kept : KeptValue = (new.stands i).kept in
+      let owned : OwnedValue = (new.stands i).owned in
       record {
         act = Takes i turn;
-        group = with_keeper k i kept took.packets;
+        group = with_keeper k i owned took.packets;
         happens = (
-          kept,
+          owned,
           took.packets,
-          one_turn i old k turn took.packets kept are brought took.does,
-          becomes n i k kept took.packets one.is_node,
+          one_turn i old k turn took.packets owned are brought took.does,
+          becomes n i k owned took.packets one.is_node,
           refl,
         );
-        are = follows i old new (new.stands i).out k kept took.packets are one refl
+        are = follows i old new (new.stands i).out k owned took.packets are one refl
             (put_was_handed (old.stands i).out (new.stands i).out took.packets took.packets refl took.gave);
       }
   changes_act old new (Ends i turn count) k are (out, brought, e, one) =
@@ -170,7 +170,7 @@ module _ {O S : Type 0} (g : Ghosts O) (s : StoreGhosts S) (ends : O → QueueEn
 
   new_are : (new : Nodes O S) → AreNewNodes domain n new → AreGroup new (started_group domain n)
   new_are new fresh = record {
-    keepers = λ i. sym (fresh.kept i);
+    keepers = λ i. sym (fresh.owned i);
     handed = λ sent c. absurd (Contains-none sent
         (subst (λ (ps : List (ℕ × Message)). Contains ps sent) fresh.none c));
   }
@@ -184,5 +184,5 @@ nodes_are_groups g s ends puts most domain n changes more new early late fresh r
 
 pub turns_publish : {O S : Type 0} (g : Ghosts O) (s : StoreGhosts S) → TurnsPublish g s
 turns_publish g s most i turn old new one are t =
-    subst (λ (x : KeptValue). IsPrefix (new.stands i).published (committed_entries x.node.saved))
+    subst (λ (x : OwnedValue). IsPrefix (new.stands i).published (committed_entries x.node.saved))
     (sym (are.keepers i)) t.shown

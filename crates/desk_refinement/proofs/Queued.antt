@@ -16,15 +16,15 @@ use Rattle.desk_refinement.specs.Nodes.{WasPut}
 use Rattle.desk_refinement.specs.Groups.{QueuedMayBeTaken}
 
 -- what is kept of a list stands in it
-kept_stands : (kept : List Bool) (all : List Message) (m : Message) → Contains (items_where_true kept all) m →
+preserved_stands : (owned : List Bool) (all : List Message) (m : Message) → Contains (items_where_true owned all) m →
     Contains all m
-kept_stands [] all m c = absurd (Contains-none m c)
-kept_stands (b ∷ kept) [] m c = absurd (Contains-none m c)
-kept_stands (true ∷ kept) (x ∷ all) m c =
+preserved_stands [] all m c = absurd (Contains-none m c)
+preserved_stands (b ∷ owned) [] m c = absurd (Contains-none m c)
+preserved_stands (true ∷ owned) (x ∷ all) m c =
     ⊎_elim (λ e. subst (Contains (x ∷ all)) e (Contains-here x all))
-    (λ r. Contains-there x all m (kept_stands kept all m r))
-    (Contains-cases x (items_where_true kept all) m c)
-kept_stands (false ∷ kept) (x ∷ all) m c = Contains-there x all m (kept_stands kept all m c)
+    (λ r. Contains-there x all m (preserved_stands owned all m r))
+    (Contains-cases x (items_where_true owned all) m c)
+preserved_stands (false ∷ owned) (x ∷ all) m c = Contains-there x all m (preserved_stands owned all m c)
 
 -- the packets for a node, of one that goes there and others, and of one that goes to another
 goes_here : (node to : ℕ) (packet : Message) (more : List (ℕ × Message)) → (to == node) ≡ true →
@@ -61,7 +61,7 @@ queued_was_handed old new packets (to, m) has (put, is, c) =
     let at = has to in
     let same : put ≡ at.1 = append_cancel_left (put_to old to) put at.1 (sym is ∙ at.2) in
     for_node to packets m
-    (kept_stands at.3.0 (packets_for to packets) m (subst (λ ps. Contains ps m) (same ∙ at.3.2) c))
+    (preserved_stands at.3.0 (packets_for to packets) m (subst (λ ps. Contains ps m) (same ∙ at.3.2) c))
 
 each_was_handed : (handed : List (ℕ × Message)) (i : ℕ) (put : List Message) →
     ((m : Message) → Contains put m → Contains handed (i, m)) →

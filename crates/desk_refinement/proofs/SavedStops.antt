@@ -22,30 +22,30 @@ finds_either g file given found f =
         saved.restart f.last_is f.running f.desk f.held f.clean f.shown f.leaves f.is_database
 
 pub stops_in_save_happen : {S : Type 0} (g : Ghosts S) → StopsInSaveHappen g
-stops_in_save_happen g domain n i old new turn packets kept file found t last f b handed =
+stops_in_save_happen g domain n i old new turn packets owned file found t last f b handed =
     ⊎_elim
     (λ is. inl (subst (λ (x : SavedValue). KeeperBecomes n i old (started domain n i x) new) (is ∙ last) b, handed))
     (λ is. inr (
-      kept,
+      owned,
       packets,
       t,
       subst (λ (x : SavedValue). KeeperBecomes n i old (started domain n i x) new) is b,
       handed ∙ sym (append-nil old.handed),
     ))
-    (finds_either g file kept.node.saved found f)
+    (finds_either g file owned.node.saved found f)
 
 pub finds_given : {S : Type 0} (g : Ghosts S) → FindsGiven g
 finds_given g file given found f saved =
-    let leaves = saved.kept f.running f.desk f.held f.clean f.shown.trees f.leaves in
+    let leaves = saved.preserved f.running f.desk f.held f.clean f.shown.trees f.leaves in
     one_file file.owner f.shown found given f.opened
     (file_of f.desk file.owner given f.shown f.is_database leaves.2 leaves.0 (saved.is_state f.last_is))
 
 pub stops_after_save_happen : {S : Type 0} (g : Ghosts S) → StopsAfterSaveHappen g
-stops_after_save_happen g domain n i count old new turn packets kept file found f t saved b handed = (
-  kept,
+stops_after_save_happen g domain n i count old new turn packets owned file found f t saved b handed = (
+  owned,
   packets,
   t,
   subst (λ (x : SavedValue). KeeperBecomes n i old (started domain n i x) new)
-      (finds_given g file kept.node.saved found f saved) b,
+      (finds_given g file owned.node.saved found f saved) b,
   handed,
 )

@@ -21,7 +21,7 @@ QueuedMayBeTaken = (i : ℕ) (old new : QueueEnds) (handed packets : List (ℕ �
 
 -- The group has the nodes' keepers, and what the nodes queued was handed out in it.
 pub record AreGroup {O S : Type 0} (nodes : Nodes O S) (g : Keepers) : Type 0 where
-  pub keepers : (i : ℕ) → g.keepers i ≡ (nodes.stands i).kept
+  pub keepers : (i : ℕ) → g.keepers i ≡ (nodes.stands i).owned
   pub handed : (sent : ℕ × Message) → Contains nodes.queued sent → Contains g.handed sent
 
 -- Whatever happens among nodes with these queues, there are acts of a group that has their keepers; and later it goes

@@ -6,7 +6,7 @@ use Rattle.desk_log.specs.SavedValue.{SavedValue, initial_saved}
 use Rattle.desk_mailbox.specs.declared.item.Item.{Item}
 use Rattle.desk_log.specs.declared.state_store.StateStore.{Ghosts as StoreGhosts}
 use Rattle.desk_threads.specs.declared.handing.Out.{Ghosts}
-use Rattle.desk_threads.specs.KeptValue.{KeptValue, DoesItems}
+use Rattle.desk_threads.specs.OwnedValue.{OwnedValue, DoesItems}
 use Rattle.desk_threads.specs.Runs.{Stand, TakesTurn}
 use Rattle.desk_peers.specs.Queues.{put_to}
 use Rattle.desk_network.specs.Putting.{QueueEnds}
@@ -40,15 +40,15 @@ pub record OneChanges {O S : Type 0} (ends : O → QueueEnds) (n i : ℕ) (old :
 -- with the state before it; else some first part of its packets may have gone out, and it is the state after it.
 pub record EndsIn {O S : Type 0} (g : Ghosts O) (domain : List ℕ) (n i : ℕ) (turn : List Item) (count : ℕ)
     (old : Stand O S) (out : O) (new : Stand O S) : Type 0 where
-  pub kept : KeptValue
+  pub owned : OwnedValue
   pub packets : List (ℕ × Message)
-  pub does : DoesItems old.kept turn packets kept
+  pub does : DoesItems old.owned turn packets owned
   pub found : SavedValue
   pub handed : List (ℕ × Message)
-  pub saved : ((found ≡ old.kept.node.saved) × (handed ≡ []))
-      ⊎ ((found ≡ kept.node.saved) × (handed ≡ take count packets))
+  pub saved : ((found ≡ old.owned.node.saved) × (handed ≡ []))
+      ⊎ ((found ≡ owned.node.saved) × (handed ≡ take count packets))
   pub gave : g.takes old.out handed out
-  pub starts : new.kept ≡ started domain n i found
+  pub starts : new.owned ≡ started domain n i found
 
 -- The change leads from nodes to nodes. Each packet that is taken was put before into a queue to the node that takes
 -- it.
@@ -70,5 +70,5 @@ RunTo {O} {S} g s ends most domain n old (change ∷ more) new =
 
 -- The nodes have done nothing, and nothing was queued.
 pub record AreNewNodes {O S : Type 0} (domain : List ℕ) (n : ℕ) (nodes : Nodes O S) : Type 0 where
-  pub kept : (i : ℕ) → (nodes.stands i).kept ≡ started domain n i initial_saved
+  pub owned : (i : ℕ) → (nodes.stands i).owned ≡ started domain n i initial_saved
   pub none : nodes.queued ≡ []

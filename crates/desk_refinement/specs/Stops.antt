@@ -10,10 +10,10 @@ use Rattle.desk_log.specs.SavedValue.{SavedValue}
 use Rattle.desk_mailbox.specs.declared.item.Item.{Item}
 use Rattle.desk_saved.specs.DeskTables.{Layout}
 use Rattle.desk_saved.specs.File.{IsState, HoldsFile, IsFileOf}
-use Rattle.desk_saved.specs.KeptFile.{HasFailed}
+use Rattle.desk_saved.specs.SameFile.{HasFailed}
 use Rattle.desk_saved.specs.Saving.{HasSaved}
 use Rattle.desk_saved.specs.Store.{StoreValue}
-use Rattle.desk_threads.specs.KeptValue.{KeptValue}
+use Rattle.desk_threads.specs.OwnedValue.{OwnedValue}
 use Rattle.desk_group.specs.Group.{Keepers, Breaks, Restarts, OneTurn, KeeperBecomes, Happens, started}
 
 -- A save of a state leaves a file so: it failed, as `leaves` of a `StateStore` has it, or it was under way or done.
@@ -45,9 +45,9 @@ FindsEither {S} g = (file : StoreValue S) (given found : SavedValue) → FindsAf
 -- a restart from the state before the turn, or a stop in it of which no packet went out.
 abbrev pub StopsInSaveHappen : {S : Type 0} → Ghosts S → Type 0
 StopsInSaveHappen {S} g = (domain : List ℕ) (n i : ℕ) (old new : Keepers) (turn : List Item)
-    (packets : List (ℕ × Message)) (kept : KeptValue) (file : StoreValue S) (found : SavedValue) →
-    OneTurn i old turn packets kept → file.last ≡ (old.keepers i).node.saved →
-    FindsAfterSave g file kept.node.saved found → KeeperBecomes n i old (started domain n i found) new →
+    (packets : List (ℕ × Message)) (owned : OwnedValue) (file : StoreValue S) (found : SavedValue) →
+    OneTurn i old turn packets owned → file.last ≡ (old.keepers i).node.saved →
+    FindsAfterSave g file owned.node.saved found → KeeperBecomes n i old (started domain n i found) new →
     new.handed ≡ old.handed → Happens domain n old (Restarts i) new ⊎ Happens domain n old (Breaks i turn 0) new
 
 -- Where that save has answered Ok, what is found is the state that was saved.
@@ -59,8 +59,8 @@ FindsGiven {S} g = (file : StoreValue S) (given found : SavedValue) (f : FindsAf
 -- what is found is a stop in that turn.
 abbrev pub StopsAfterSaveHappen : {S : Type 0} → Ghosts S → Type 0
 StopsAfterSaveHappen {S} g = (domain : List ℕ) (n i count : ℕ) (old new : Keepers) (turn : List Item)
-    (packets : List (ℕ × Message)) (kept : KeptValue) (file : StoreValue S) (found : SavedValue)
-    (f : FindsAfterSave g file kept.node.saved found) → OneTurn i old turn packets kept →
-    HasSaved {T = Unit {0}} g file f.left kept.node.saved (Ok tt) →
+    (packets : List (ℕ × Message)) (owned : OwnedValue) (file : StoreValue S) (found : SavedValue)
+    (f : FindsAfterSave g file owned.node.saved found) → OneTurn i old turn packets owned →
+    HasSaved {T = Unit {0}} g file f.left owned.node.saved (Ok tt) →
     KeeperBecomes n i old (started domain n i found) new → new.handed ≡ old.handed ++ take count packets →
     Happens domain n old (Breaks i turn count) new

@@ -67,9 +67,9 @@ take-first [] rest = refl
 take-first (x ∷ first) rest = ap (λ l. x ∷ l) (take-first first rest)
 
 -- what stands after the first lines
-behind_first : {A : Type 0} (first asked lines : List A) → (h : IsPrefix (first ++ asked) lines) →
+after_first : {A : Type 0} (first asked lines : List A) → (h : IsPrefix (first ++ asked) lines) →
     lines ≡ first ++ (asked ++ h.0)
-behind_first first asked lines h = sym h.1 ∙ append_assoc first asked h.0
+after_first first asked lines h = sym h.1 ∙ append_assoc first asked h.0
 
 almost_prefix : (r : Refusal) (old new : Option (List ℕ)) (texts : List (List ℕ)) (more : List ℕ) →
     AppendsAlmost r old new texts → AppendsPrefix old new (joined texts ++ more)
@@ -100,7 +100,7 @@ prefix_written domain r c None old new h = tt
 prefix_written domain r c (Some input) old new h =
     let b = replies_begin (start domain) h.0 (h.1 ++ h.2.0) in
     let e : replies (start domain) (lines_of input) ≡ joined h.3.0 ++ b.0 =
-    ap (λ l. replies (start domain) l) (behind_first h.0 h.1 (lines_of input) h.2) ∙ b.1
+    ap (λ l. replies (start domain) l) (after_first h.0 h.1 (lines_of input) h.2) ∙ b.1
     ∙ ap (λ u. u ++ b.0) (sym (replied (start domain) h.3.1 h.0 h.3.0 h.3.2)) in
     rw e (almost_prefix r old new h.3.0 b.0 h.3.4)
 
@@ -118,7 +118,7 @@ whole_written domain r c None old new n h = tt
 whole_written domain r c (Some input) old new n h = (
   length h.0,
   rw (
-    behind_first h.0 h.1 (lines_of input) h.2,
+    after_first h.0 h.1 (lines_of input) h.2,
     take-first h.0 (h.1 ++ h.2.0),
     ← replied (start domain) h.3.1 h.0 h.3.0 h.3.2,
   )

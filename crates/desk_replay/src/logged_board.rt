@@ -139,14 +139,14 @@ impl LoggedBoard {
             }
             Admission::Stale { latest } => {
                 let latest = latest.get();
-                let told = refused(&entry, Refusal::Stale { latest });
+                let reported = refused(&entry, Refusal::Stale { latest });
                 drop(entry);
-                Ok(told)
+                Ok(reported)
             }
             Admission::Full => {
-                let told = refused(&entry, Refusal::BookFull);
+                let reported = refused(&entry, Refusal::BookFull);
                 drop(entry);
-                Ok(told)
+                Ok(reported)
             }
         }
     }

@@ -42,7 +42,7 @@ impl Handler for ReplayHandler {
 
     ghost gives_up = { λ b line refusal after. LacksMemory b line refusal after };
 
-    ghost kept = { λ _. tt };
+    ghost preserved = { λ _. tt };
 
     fn answer(self, line: &LineBuffer) -> (ReplayHandler, Result<ReplyText, Refusal>) {
         let mut handler = self;

@@ -11,8 +11,8 @@ use Rattle.desk_saved.specs.Causes.{ReadsTable, RefusesRead}
 -- the first read is refused
 pub refused_read : {S : Type 0} (g : Ghosts S) (old new : Held S) (text : List ℕ) → ReadsTable text → (e : Error)
     → FailsToQuery text [] (state g old) (state g new) e → RefusesRead g old new
-refused_read g old new text reads e told =
-    record { before = old; same = inl refl; text = text; reads = reads; error = e; told = told }
+refused_read g old new text reads e reported =
+    record { before = old; same = inl refl; text = text; reads = reads; error = e; reported = reported }
 
 -- a later one is
 pub refused_later : {S : Type 0} (g : Ghosts S) (old mid new : Held S) → IsUnchanged (state g old) (state g mid)
@@ -26,7 +26,7 @@ refused_later g old mid new same h = record {
   text = h.text;
   reads = h.reads;
   error = h.error;
-  told = h.told;
+  reported = h.reported;
 }
 
 -- what was not done had one cause or the other

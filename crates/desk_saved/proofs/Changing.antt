@@ -23,9 +23,9 @@ use Rattle.desk_saved.proofs.Opening.{shows_same}
 module _ {S : Type 0} (g : Ghosts S) (file : StoreValue S) (held conn : Held S) (given : SavedValue) (front : ℕ)
     (same : held ≡ file.connection) (log : List Entry) (log_is : log ≡ given.log) where
   -- no commit but of entries that fit
-  pub commits_told : Survives (state g held) (state g conn) (λ _. FitsEntries (drop front log))
+  pub commits_reported : Survives (state g held) (state g conn) (λ _. FitsEntries (drop front log))
       → Survives (state g file.connection) (state g conn) (λ _. FitsEntries (drop front given.log))
-  commits_told told = rw (same, log_is) at told
+  commits_reported reported = rw (same, log_is) at reported
 
   module _ (before : Stored) (clients : List ℕ) (view normal commit : ℕ)
       (before_is : before ≡ record {
@@ -35,7 +35,7 @@ module _ {S : Type 0} (g : Ghosts S) (file : StoreValue S) (held conn : Held S) 
       (clients_is : clients ≡ changed_clients front file.last.log given.log)
       (view_is : view ≡ given.view) (normal_is : normal ≡ given.normal) (commit_is : commit ≡ given.commit) where
     -- what a crash leaves
-    pub crash_told : (IsTrue (state g held).is_open → IsDatabase (state g held).now
+    pub crash_reported : (IsTrue (state g held).is_open → IsDatabase (state g held).now
         → (d : Layout) (id n : ℕ) (domain : List ℕ) (entries rows : List Row)
         → Keeps d (state g held).now
         (own_rows id n domain before.numbers.view before.numbers.normal before.numbers.commit entries rows)
@@ -52,13 +52,13 @@ module _ {S : Type 0} (g : Ghosts S) (file : StoreValue S) (held conn : Held S) 
         file.owner.n file.owner.domain given.view given.normal given.commit
         (up_to front (log_of file.last) ++ rows_from front (drop front given.log))
         (settle_all given.log (changed_clients front file.last.log given.log) (client_rows file.last.log))))
-    crash_told told d open_ live =
+    crash_reported reported d open_ live =
         rw (log_is, clients_is, before_is, view_is, normal_is, commit_is)
-        at ((rw same at told) open_ live d file.owner.id file.owner.n file.owner.domain (log_of file.last)
+        at ((rw same at reported) open_ live d file.owner.id file.owner.n file.owner.domain (log_of file.last)
         (client_rows file.last.log))
 
     -- what stands in the tables where it was done
-    pub rows_told : (done : Bool) → IsTrue done → (HasCleanDisk (state g conn) → IsTrue (state g held).is_open
+    pub rows_reported : (done : Bool) → IsTrue done → (HasCleanDisk (state g conn) → IsTrue (state g held).is_open
         → IsDatabase (state g held).now
         → (d : Layout) (id n : ℕ) (domain : List ℕ) (entries rows : List Row)
         → Keeps d (state g held).now
@@ -77,20 +77,20 @@ module _ {S : Type 0} (g : Ghosts S) (file : StoreValue S) (held conn : Held S) 
         (up_to front (log_of file.last) ++ rows_from front (drop front given.log))
         (settle_all given.log (changed_clients front file.last.log given.log) (client_rows file.last.log)))
         × KeepsOthers d (trees_of g file.connection) (trees_of g conn)
-    rows_told done is_done told d clean open_ live keeps within keyed =
+    rows_reported done is_done reported d clean open_ live keeps within keyed =
         rw (log_is, clients_is, before_is, view_is, normal_is, commit_is)
-        at ((rw same at told) clean open_ live d file.owner.id file.owner.n file.owner.domain (log_of file.last)
+        at ((rw same at reported) clean open_ live d file.owner.id file.owner.n file.owner.domain (log_of file.last)
         (client_rows file.last.log))
         keeps within keyed is_done
 
 -- a change that was not made shows what stood before
-pub undone_told : {S : Type 0} (g : Ghosts S) (held old conn : Held S) (result : Result Bool Error) → held ≡ old
+pub undone_reported : {S : Type 0} (g : Ghosts S) (held old conn : Held S) (result : Result Bool Error) → held ≡ old
     → (result ≡ Ok true → ⊥)
     → (HasCleanDisk (state g conn) → OnErr result (ShowsAsBefore (state g held) (state g conn)))
     → IfOk result (λ done. done ≡ false → conn ≡ held)
     → HasCleanDisk (state g conn) → ShowsAsBefore (state g old) (state g conn)
-undone_told g held old conn (Ok true) same not_done undone busy clean = absurd (not_done refl)
-undone_told g held old conn (Ok false) same not_done undone busy clean =
+undone_reported g held old conn (Ok true) same not_done undone busy clean = absurd (not_done refl)
+undone_reported g held old conn (Ok false) same not_done undone busy clean =
     subst (λ h. ShowsAsBefore (state g old) (state g h)) (sym (busy refl ∙ same)) (shows_same (state g old))
-undone_told g held old conn (Err e) same not_done undone busy clean =
+undone_reported g held old conn (Err e) same not_done undone busy clean =
     subst (λ h. ShowsAsBefore (state g h) (state g conn)) same (undone clean)

@@ -107,10 +107,10 @@ are_sorted log cs rising k d low high =
     ∙ not_before (row_of_client (get_or cs (k + 1) e)) (row_of_client (get_or cs k e)) _ refl
     (no_less (get_or cs (k + 1) e).client (get_or cs k e).client (rising.1 k (k + 1) e (omega arith) next))
 
-kept_is : (rows : List Row) → map (output (clients_query 0)) (flat_map (λ r. ([] ∷ r ∷ []) ∷ []) rows) ≡ map out_of
+preserved_is : (rows : List Row) → map (output (clients_query 0)) (flat_map (λ r. ([] ∷ r ∷ []) ∷ []) rows) ≡ map out_of
     (map shown_client rows)
-kept_is [] = refl
-kept_is (r ∷ rows) = ap (λ l. out_of (shown_client r) ∷ l) (kept_is rows)
+preserved_is [] = refl
+preserved_is (r ∷ rows) = ap (λ l. out_of (shown_client r) ∷ l) (preserved_is rows)
 
 module _ (d : Layout) (old new : State) (rows : List Row) (schema : old.now.schema ≡ d.schema)
     (h : Shown read_clients [] old new rows) where
@@ -126,12 +126,13 @@ module _ (d : Layout) (old new : State) (rows : List Row) (schema : old.now.sche
       h in
       got.answer Null
 
-  kept : answer.kept ≡ map out_of (map shown_client (old.now.trees d.client.tree))
-  kept = answer.distinct ∙ ap (map (output (clients_query 0)))
-      (let grouped = rw d.client.stands.own.small at answer.grouped in grouped) ∙ kept_is (old.now.trees d.client.tree)
+  preserved : answer.kept ≡ map out_of (map shown_client (old.now.trees d.client.tree))
+  preserved = answer.distinct ∙ ap (map (output (clients_query 0)))
+      (let grouped = rw d.client.stands.own.small at answer.grouped in grouped) ∙ preserved_is
+      (old.now.trees d.client.tree)
 
   in_any_order : IsPermutation (map out_of (map shown_client (old.now.trees d.client.tree))) answer.ordered
-  in_any_order = subst (λ k. IsPermutation k answer.ordered) kept answer.same
+  in_any_order = subst (λ k. IsPermutation k answer.ordered) preserved answer.same
 
   -- the rows are those of the table, in some order
   pub clients_shown : IsPermutation rows (map shown_client (old.now.trees d.client.tree))

@@ -61,11 +61,11 @@ all_permuted P = along_permutation (λ xs ys. AllByRecursion P xs → AllByRecur
     (λ x xs ys more h. (h.0, more h.1)) (λ x y xs h. (h.1.0, (h.0, h.1.1))) (λ xs ys zs f g h. g (f h))
 
 -- one of our tables other than the one that is written
-pub kept_table : (d : Layout) {kind : ℕ → Table} (ours : TableIn d.schema kind) (tree : ℕ) (old new : Trees)
+pub preserved_table : (d : Layout) {kind : ℕ → Table} (ours : TableIn d.schema kind) (tree : ℕ) (old new : Trees)
     → (kind ours.tree).tree ≡ ours.tree → ours.tree ≢ tree
     → AllByRecursion (λ (t : Table). t.tree ≢ tree → new t.tree ≡ old t.tree) d.schema.tables
     → new ours.tree ≡ old ours.tree
-kept_table d {kind} ours tree old new is apart all =
+preserved_table d {kind} ours tree old new is apart all =
     let it = all-slice_get (λ (t : Table). t.tree ≢ tree → new t.tree ≡ old t.tree) d.schema.tables ours.at
     (kind ours.tree) ours.stands.found all in
     subst (λ n. n ≢ tree → new n ≡ old n) is it apart

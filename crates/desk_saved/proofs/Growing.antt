@@ -65,19 +65,20 @@ abbrev Stays : Layout → Trees → Trees → Table → Type 0
 Stays d old new t = IsOther d t.tree → new t.tree ≡ old t.tree
 
 module _ (d : Layout) (a b : State) (grows : GrowsTo a.now.schema d) (client : MakesTable a b (client_table 0)) where
-  pub node_kept : b.now.trees d.node.tree ≡ a.now.trees d.node.tree
-  node_kept = all-slice_get (λ (t : Table). b.now.trees t.tree ≡ a.now.trees t.tree) a.now.schema.tables d.node.at
+  pub node_preserved : b.now.trees d.node.tree ≡ a.now.trees d.node.tree
+  node_preserved = all-slice_get (λ (t : Table). b.now.trees t.tree ≡ a.now.trees t.tree) a.now.schema.tables d.node.at
       (node_table d.node.tree) (node_before a.now.schema d grows) client.others
 
-  pub entry_kept : KeepsEntryRows d a b
-  entry_kept = all-slice_get (λ (t : Table). b.now.trees t.tree ≡ a.now.trees t.tree) a.now.schema.tables d.entry.at
+  pub entry_preserved : KeepsEntryRows d a b
+  entry_preserved = all-slice_get (λ (t : Table). b.now.trees t.tree ≡ a.now.trees t.tree) a.now.schema.tables
+      d.entry.at
       (entry_table d.entry.tree) (entry_before a.now.schema d grows) client.others
 
   pub client_empty : b.now.trees d.client.tree ≡ []
   client_empty = subst (λ t. b.now.trees t ≡ []) grows.client_is client.empty
 
-  pub others_kept : KeepsOthers d a.now.trees b.now.trees
-  others_kept =
+  pub others_preserved : KeepsOthers d a.now.trees b.now.trees
+  others_preserved =
       let P = Stays d a.now.trees b.now.trees in
       let before : AllByRecursion P a.now.schema.tables =
       all_weaker (λ (t : Table). b.now.trees t.tree ≡ a.now.trees t.tree) P (λ t h _. h) a.now.schema.tables

@@ -42,32 +42,32 @@ module _ {S : Type 0} (g : Ghosts S) (before after : Held S) (owner : Owner) (s 
   -- the steps make the one file of the other, in a transaction of a connection under another name
   module _ (given : Held S) (is : given ≡ before) (all : List RowStep) (Fit : Type 0) (apt : AreApt all old_rows)
       (made : effects all old_rows ≡ rows') (spares : SparesAll missings.Clients all) where
-    abbrev Told : Result Bool Error → Type 0
-    Told r = Transacts g given after (StandsBefore missings.Clients) (AreApt all) r (effects all) Fit
+    abbrev Reported : Result Bool Error → Type 0
+    Reported r = Transacts g given after (StandsBefore missings.Clients) (AreApt all) r (effects all) Fit
         (SparesAll missings.Clients all)
 
-    pub may_grow : (r : Result Bool Error) → Told r → (state g after).step_limit ≡ (state g given).step_limit
+    pub may_grow : (r : Result Bool Error) → Reported r → (state g after).step_limit ≡ (state g given).step_limit
         → (HasCleanDisk (state g after) → HasCleanDisk (state g given)) → MayGrow g before owner s after
-    may_grow r told limit clean = record {
+    may_grow r reported limit clean = record {
       limit = rw is at limit;
       clean = rw is at clean;
       left = λ late d stands trees leaves.
           elim ((left_after g given before after is missings.Clients all Fit (SparesAll missings.Clients all) d
           old_rows rows' (stands.grows, stands.rows.0, stands.rows.1, refl) apt made stands.is_open stands.sound r
-          told).crash late trees leaves) [
+          reported).crash late trees leaves) [
             | inl was ↦ inl was
             | inr made' ↦ inr ((is_state d trees made'.0.0, made'.0.1, made'.0.2), made'.1 spares)
           ];
     }
 
-    pub saves_grown : (done : Bool) → IsTrue done → Told (Ok done) → HasCleanDisk (state g after)
+    pub saves_grown : (done : Bool) → IsTrue done → Reported (Ok done) → HasCleanDisk (state g after)
         → (d : Layout) → StandsToGrow d owner s (state g before)
         → Saves d (state g after) (state_rows owner s) × KeepsOthers d (trees_of g before) (trees_of g after)
         × KeepsEntryRows d (state g before) (state g after)
-    saves_grown done is_done told late d stands =
+    saves_grown done is_done reported late d stands =
         let h = saved_after g given before after is missings.Clients all Fit (SparesAll missings.Clients all) d
         old_rows rows' (stands.grows, stands.rows.0, stands.rows.1, refl) apt made stands.is_open stands.sound done
-        is_done told late in
+        is_done reported late in
         let saves : Saves d (state g after) (state_rows owner s) = record {
           keeps = record { schema = h.0.keeps.schema; rows = is_state d (trees_of g after) h.0.keeps.rows };
           sound = h.0.sound;

@@ -48,4 +48,4 @@ pub mod SaveOutcomes
 pub mod Opening
 pub mod OldOpening
 pub mod LoadOutcomes
-pub mod KeptFile
+pub mod SameFile

@@ -87,16 +87,16 @@ module _ (d : Layout) (a b c e : State) (becomes : Becomes a.now.schema d) (node
   at_second = entry.schema ∙ ap (λ s. created s (entry_table 0)) at_first
 
   -- what the last CREATE keeps, by the schema before all
-  kept_last : KeepsRows (with_entry_table a.now.schema).tables c.now.trees e.now.trees
-  kept_last = subst (λ s. KeepsRows s.tables c.now.trees e.now.trees) at_second client.others
+  preserved_last : KeepsRows (with_entry_table a.now.schema).tables c.now.trees e.now.trees
+  preserved_last = subst (λ s. KeepsRows s.tables c.now.trees e.now.trees) at_second client.others
 
-  kept_second : KeepsRows (with_node_table a.now.schema).tables b.now.trees c.now.trees
-  kept_second = subst (λ s. KeepsRows s.tables b.now.trees c.now.trees) at_first entry.others
+  preserved_second : KeepsRows (with_node_table a.now.schema).tables b.now.trees c.now.trees
+  preserved_second = subst (λ s. KeepsRows s.tables b.now.trees c.now.trees) at_first entry.others
 
   node_empty : e.now.trees d.node.tree ≡ []
   node_empty =
       let later : KeepsRows (with_node_table a.now.schema).tables c.now.trees e.now.trees =
-      rows_fewer (with_node_table a.now.schema).tables _ c.now.trees e.now.trees kept_last in
+      rows_fewer (with_node_table a.now.schema).tables _ c.now.trees e.now.trees preserved_last in
       subst (λ t. e.now.trees t ≡ []) becomes.node_is
       (last_of (λ (t : Table). e.now.trees t.tree ≡ c.now.trees t.tree) a.now.schema.tables _ later
       ∙ still_empty a b c (node_table 0) (entry_table 0) node entry)
@@ -135,15 +135,15 @@ pub others_made : (d : Layout) (a b c e : State) → Becomes a.now.schema d → 
     → MakesTable b c (entry_table 0) → MakesTable c e (client_table 0) → KeepsOthers d a.now.trees e.now.trees
 others_made d a b c e becomes node entry client =
     let tables = a.now.schema.tables in
-    let second = kept_second d a b c e becomes node entry client in
-    let last = kept_last d a b c e becomes node entry client in
+    let second = preserved_second d a b c e becomes node entry client in
+    let last = preserved_last d a b c e becomes node entry client in
     let later = rows_fewer tables _ b.now.trees c.now.trees second in
     let latest = rows_fewer tables _ c.now.trees e.now.trees
     (rows_fewer (with_node_table a.now.schema).tables _ c.now.trees e.now.trees last) in
-    let kept = rows_trans tables a.now.trees c.now.trees e.now.trees
+    let preserved = rows_trans tables a.now.trees c.now.trees e.now.trees
     (rows_trans tables a.now.trees b.now.trees c.now.trees node.others later) latest in
     let P = Stays d a.now.trees e.now.trees in
-    let before : AllByRecursion P tables = all_weaker _ P (λ t h _. h) tables kept in
+    let before : AllByRecursion P tables = all_weaker _ P (λ t h _. h) tables preserved in
     subst (λ (s : Schema). AllByRecursion P s.tables) becomes.desk
     (and_last P _ _ (and_last P _ _ (and_last P _ _ before (λ other. absurd (other.0 becomes.node_is)))
     (λ other. absurd (other.1.0 becomes.entry_is))) (λ other. absurd (other.1.1.0 becomes.client_is)))

@@ -15,7 +15,7 @@ use Rattle.desk_saved.specs.NewTables.{CanTake, MakesTable}
 use Rattle.desk_saved.specs.Tables.{node_table, entry_table, client_table}
 use Rattle.desk_saved.specs.Transactions.{Quiet, Ran, MakesRows}
 use Rattle.desk_saved.proofs.Making.{makes_table, all_made, others_made, made_inside}
-use Rattle.desk_saved.proofs.Growing.{others_kept, entry_kept, node_kept, client_empty}
+use Rattle.desk_saved.proofs.Growing.{others_preserved, entry_preserved, node_preserved, client_empty}
 
 module _ {S : Type 0} (g : Ghosts S) where
   pub made : (old new : Held S) (table : DeskTable) (r : Result (Unit {0}) Error) → Ran g old new
@@ -36,19 +36,19 @@ module _ {S : Type 0} (g : Ghosts S) where
   clients_come old new (Ok done) quiet h = record {
     rows = λ clean inside d rows comes apt.
         let it = h clean inside comes.0.client_can in
-        let entries = entry_kept d (state g old) (state g new) comes.0 it in (
+        let entries = entry_preserved d (state g old) (state g new) comes.0 it in (
           record {
             keeps = record {
               schema = it.schema ∙ comes.0.desk;
               rows = (
-                ap (map shown_node) (node_kept d (state g old) (state g new) comes.0 it) ∙ comes.1,
+                ap (map shown_node) (node_preserved d (state g old) (state g new) comes.0 it) ∙ comes.1,
                 subst (λ l. IsPermutation rows.entries (map shown_entry l)) (sym entries) comes.2,
                 subst (λ l. IsPermutation rows.clients (map shown_client l))
                     (sym (client_empty d (state g old) (state g new) comes.0 it))
                     (subst (λ l. IsPermutation l []) (sym comes.3) (IsPermutation-refl [])),
               );
             };
-            others = others_kept d (state g old) (state g new) comes.0 it;
+            others = others_preserved d (state g old) (state g new) comes.0 it;
             sound = it.sound;
             shows = it.shows;
           },

@@ -121,21 +121,21 @@ module _ {S : Type 0} (g : Ghosts S) (given before after : Held S) (same : given
     (stands : StandsBefore missing d (state g before).now rows) (apt : AreApt all rows)
     (made : effects all rows ≡ rows')
     (open_ : IsTrue (state g before).is_open) (live : IsDatabase (state g before).now) where
-  abbrev Told : Held S → Result Bool Error → Type 0
-  Told old r = Transacts g old after (StandsBefore missing) (AreApt all) r (effects all) Fit Spared
+  abbrev Reported : Held S → Result Bool Error → Type 0
+  Reported old r = Transacts g old after (StandsBefore missing) (AreApt all) r (effects all) Fit Spared
 
-  pub left_after : (r : Result Bool Error) → Told given r
+  pub left_after : (r : Result Bool Error) → Reported given r
       → Survives (state g before) (state g after) (λ trees. Changes d (trees_of g before) trees rows'
       × (Spared → trees d.entry.tree ≡ trees_of g before d.entry.tree))
-  left_after r told =
+  left_after r reported =
       subst (λ shown. Survives (state g before) (state g after) (λ trees. Changes d (trees_of g before) trees shown
       × (Spared → trees d.entry.tree ≡ trees_of g before d.entry.tree))) made
-      ((subst (λ old. Told old r) same told).crash open_ live d rows stands apt)
+      ((subst (λ old. Reported old r) same reported).crash open_ live d rows stands apt)
 
-  pub saved_after : (done : Bool) → IsTrue done → Told given (Ok done) → HasCleanDisk (state g after)
+  pub saved_after : (done : Bool) → IsTrue done → Reported given (Ok done) → HasCleanDisk (state g after)
       → Saves d (state g after) rows' × KeepsOthers d (trees_of g before) (trees_of g after)
       × KeepsSpared Spared d (state g before) (state g after)
-  saved_after done is_done told clean =
+  saved_after done is_done reported clean =
       subst (λ shown. Saves d (state g after) shown × KeepsOthers d (trees_of g before) (trees_of g after)
       × KeepsSpared Spared d (state g before) (state g after)) made
-      ((subst (λ old. Told old (Ok done)) same told).rows clean open_ live d rows stands apt is_done)
+      ((subst (λ old. Reported old (Ok done)) same reported).rows clean open_ live d rows stands apt is_done)

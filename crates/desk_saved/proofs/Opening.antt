@@ -260,19 +260,19 @@ module _ {S : Type 0} (g : Ghosts S) (before : Held S) (owner : Owner) where
         → Transacts g given after (StandsBefore missings.All) (AreApt all) (Ok done) (effects all) Fit Spared
         → (last : SavedValue) → last ≡ initial_saved
         → HasOpened g before owner (record { connection = after; owner = owner; last = last; stopped = false })
-    begun_by done is_done told last first =
+    begun_by done is_done reported last first =
         begun neither room after (rw same at limit)
         (λ open_ d becomes. survives_weaker (state g before) (state g after) _ _ (λ _ trees h. h.0)
         (left_after g given before after same missings.All all Fit Spared d no_rows first_rows (becomes, refl) apt made
-        open_ (live open_).0 (Ok done) told))
+        open_ (live open_).0 (Ok done) reported))
         last first
         (λ open_ d becomes clean. rw first (subst (λ l. Saves d (state g after)
         (own_rows owner.id owner.n owner.domain 0 0 0 [] l)) (sym no_clients)
         (saved_after g given before after same missings.All all Fit Spared d no_rows first_rows (becomes, refl) apt made
-        open_ (live open_).0 done is_done told clean).0))
+        open_ (live open_).0 done is_done reported clean).0))
         (λ clean open_ d becomes.
         (saved_after g given before after same missings.All all Fit Spared d no_rows first_rows (becomes, refl) apt made
-        open_ (live open_).0 done is_done told clean).1)
+        open_ (live open_).0 done is_done reported clean).1)
 
     -- the same, where making them failed
     pub not_begun_by : (r : Result Bool Error)
@@ -280,11 +280,11 @@ module _ {S : Type 0} (g : Ghosts S) (before : Held S) (owner : Owner) where
         → (HasCleanDisk (state g after) → ShowsAsBefore (state g given) (state g after))
         → (HasCleanDisk (state g after) → IsTrue (state g given).in_transaction ⊎ HasNoTransaction (state g after))
         → HasRefused g before owner after refusals.StoreFault
-    not_begun_by r told shows cause =
+    not_begun_by r reported shows cause =
         not_begun neither room after (rw same at limit)
         (λ open_ d becomes. survives_weaker (state g before) (state g after) _ _ (λ _ trees h. h.0)
         (left_after g given before after same missings.All all Fit Spared d no_rows first_rows (becomes, refl) apt made
-        open_ (live open_).0 r told))
+        open_ (live open_).0 r reported))
         (rw same at shows)
         (λ clean. elim ((rw same at cause) clean) [
           | inl open_ ↦ inl (inl open_)

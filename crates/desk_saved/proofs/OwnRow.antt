@@ -37,9 +37,9 @@ module _ (r : Row) (id n : ℕ) (domain : List ℕ) (view normal commit : ℕ) w
   answers params terms picks tree small db rows one a =
       let staged : a.staged ≡ (params ∷ r ∷ []) ∷ [] = a.grouped ∙ rw (small, one) refl in
       let o : Output = ([], picked) in
-      let kept : a.kept ≡ o ∷ [] = a.distinct ∙ ap (map (output (updating terms 0))) staged
+      let preserved : a.kept ≡ o ∷ [] = a.distinct ∙ ap (map (output (updating terms 0))) staged
       ∙ ap (λ row. ([], row) ∷ []) picks in
-      let ordered = one_permutation o a.ordered (subst (λ k. IsPermutation k a.ordered) kept a.same) in
+      let ordered = one_permutation o a.ordered (subst (λ k. IsPermutation k a.ordered) preserved a.same) in
       a.shown ∙ ap (λ xs. page (updating terms 0) [] (map (λ (p : Output). p.1) xs)) ordered
 
   pub edit_is : column r 0 ≡ Int (pos 1) → (tree : ℕ) (db : Trees) → db tree ≡ r ∷ []

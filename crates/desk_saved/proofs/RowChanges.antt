@@ -37,7 +37,7 @@ use Rattle.desk_saved.specs.DeskTables.{Layout, StateRows, Keeps, Leaves, IsOthe
 use Rattle.desk_saved.specs.DeskTables.{KeepsEntryRows, versioned_row, is_past, is_client, shown_entry, shown_node}
 use Rattle.desk_saved.specs.DeskTables.{shown_client, own_row}
 use Rattle.desk_saved.specs.File.{entry_row_at}
-use Rattle.desk_saved.proofs.Common.{all_permuted, kept_table, cast_int, cast_null}
+use Rattle.desk_saved.proofs.Common.{all_permuted, preserved_table, cast_int, cast_null}
 use Rattle.desk_saved.proofs.OneTable.{WroteTable, Means, deletes, inserts, updates}
 use Rattle.desk_saved.proofs.OwnRow.{only_row, picked, answers, edit_is, col_is, picks_numbers, picks_version}
 use Rattle.desk_saved.proofs.StandingTables.{entry_free, client_free, node_free}
@@ -58,11 +58,11 @@ module _ (d : Layout) (old new : State) (rows : StateRows) (keeps : Keeps d old.
     keeps = record {
       schema = w.schema_is;
       rows = (
-        ap (map shown_node) (kept_table d d.node d.entry.tree old.now.trees new.now.trees refl d.apart.0 w.others)
+        ap (map shown_node) (preserved_table d d.node d.entry.tree old.now.trees new.now.trees refl d.apart.0 w.others)
             ∙ keeps.rows.0,
         IsPermutation-trans _ _ _ same (IsPermutation-map shown_entry _ _ w.rows_are),
         subst (λ l. IsPermutation rows.clients (map shown_client l))
-            (sym (kept_table d d.client d.entry.tree old.now.trees new.now.trees refl
+            (sym (preserved_table d d.client d.entry.tree old.now.trees new.now.trees refl
             (λ e. d.apart.2 (sym e)) w.others))
             keeps.rows.2,
       );
@@ -76,13 +76,13 @@ module _ (d : Layout) (old new : State) (rows : StateRows) (keeps : Keeps d old.
   leaves_clients : WroteTable d.schema d.client.tree old new stored → IsPermutation shown (map shown_client stored)
       → Leaves d old new (record rows { clients = shown }) × KeepsEntryRows d old new
   leaves_clients w same =
-      let entries = kept_table d d.entry d.client.tree old.now.trees new.now.trees refl d.apart.2 w.others in (
+      let entries = preserved_table d d.entry d.client.tree old.now.trees new.now.trees refl d.apart.2 w.others in (
         record {
           keeps = record {
             schema = w.schema_is;
             rows = (
               ap (map shown_node)
-                  (kept_table d d.node d.client.tree old.now.trees new.now.trees refl d.apart.1 w.others)
+                  (preserved_table d d.node d.client.tree old.now.trees new.now.trees refl d.apart.1 w.others)
                   ∙ keeps.rows.0,
               subst (λ l. IsPermutation rows.entries (map shown_entry l)) (sym entries) keeps.rows.1,
               IsPermutation-trans _ _ _ same (IsPermutation-map shown_client _ _ w.rows_are),
@@ -99,7 +99,7 @@ module _ (d : Layout) (old new : State) (rows : StateRows) (keeps : Keeps d old.
   leaves_own : WroteTable d.schema d.node.tree old new stored → map shown_node (new.now.trees d.node.tree) ≡ shown
       → Leaves d old new (record rows { own = shown }) × KeepsEntryRows d old new
   leaves_own w same =
-      let entries = kept_table d d.entry d.node.tree old.now.trees new.now.trees refl
+      let entries = preserved_table d d.entry d.node.tree old.now.trees new.now.trees refl
       (λ e. d.apart.0 (sym e)) w.others in (
         record {
           keeps = record {
@@ -108,7 +108,7 @@ module _ (d : Layout) (old new : State) (rows : StateRows) (keeps : Keeps d old.
               same,
               subst (λ l. IsPermutation rows.entries (map shown_entry l)) (sym entries) keeps.rows.1,
               subst (λ l. IsPermutation rows.clients (map shown_client l))
-                  (sym (kept_table d d.client d.node.tree old.now.trees new.now.trees refl (λ e. d.apart.1 (sym e))
+                  (sym (preserved_table d d.client d.node.tree old.now.trees new.now.trees refl (λ e. d.apart.1 (sym e))
                   w.others)) keeps.rows.2,
             );
           };
@@ -295,19 +295,25 @@ all_before P (x ∷ all) (suc k) c low is h =
 module _ {S : Type 0} (g : Ghosts S) where
   pub quiet_none : (s : Held S) → Quiet g s s (Ok tt)
   quiet_none s =
-      record { survives = commits_no (state g s); kept = λ _. keeps_none (state g s); inside = λ clean inside. inside }
+      record {
+        survives = commits_no (state g s);
+        preserved = λ _. keeps_none (state g s);
+        inside =
+            λ clean inside. inside;
+      }
 
   pub quiet_then : (a b c : Held S) (r : Result (Unit {0}) Error) → Quiet g a b (Ok tt) → Quiet g b c r → Quiet g a c r
   quiet_then a b c r p q =
       let low : HasCleanDisk (state g c) → HasCleanDisk (state g b) = λ clean. omega (arith, q.survives.clean) in
       record {
         survives = commits_nothing (state g a) (state g b) (state g c) p.survives q.survives;
-        kept = λ clean. keeps_then (state g a) (state g b) (state g c) (p.kept (low clean)) (q.kept clean);
+        preserved = λ clean. keeps_then (state g a) (state g b) (state g c) (p.preserved (low clean))
+            (q.preserved clean);
         inside = λ clean inside. q.inside clean (p.inside (low clean) inside);
       }
 
   quiet_err : (a b : Held S) (e f : Error) → Quiet g a b (Err e) → Quiet g a b (Err f)
-  quiet_err a b e f p = record { survives = p.survives; kept = p.kept; inside = λ clean inside. tt }
+  quiet_err a b e f p = record { survives = p.survives; preserved = p.preserved; inside = λ clean inside. tt }
 
   -- what is refused makes nothing, whatever it was to make
   pub makes_no : (a b : Held S) (Stands : Layout → Database → StateRows → Type 0) (Apt : StateRows → Type 0)

@@ -21,14 +21,14 @@ drop_two p q (x ∷ xs) =
     (x ∷ filter (λ y. not (p y || q y)) xs) (filter (λ y. not (p y || q y)) xs))
     [ true ↦ drop_two p q xs | false ↦ ap (λ l. cond (not (q x)) (x ∷ l) l) (drop_two p q xs) ]
 
-kept_all : {X : Type 0} (xs : List X) → filter (λ x. true) xs ≡ xs
-kept_all [] = refl
-kept_all (x ∷ xs) = ap (λ l. x ∷ l) (kept_all xs)
+preserved_all : {X : Type 0} (xs : List X) → filter (λ x. true) xs ≡ xs
+preserved_all [] = refl
+preserved_all (x ∷ xs) = ap (λ l. x ∷ l) (preserved_all xs)
 
 -- taken out one by one, or all at once
 without_any : (ids : List ℤ) (rows : List Row)
     → without_all rows ids ≡ filter (λ r. not (list_any (λ id. has_rowid id r) ids)) rows
-without_any [] rows = sym (kept_all rows)
+without_any [] rows = sym (preserved_all rows)
 without_any (id ∷ ids) rows =
     without_any ids (without_rowid id rows) ∙ drop_two (has_rowid id) (λ r. list_any (λ i. has_rowid i r) ids) rows
 

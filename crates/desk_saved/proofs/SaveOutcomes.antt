@@ -67,7 +67,7 @@ module _ {S : Type 0} (g : Ghosts S) (file : StoreValue S) (given : SavedValue)
     saved = λ _ _ _. tt;
     others = λ _ _ _ _. tt;
     stop = λ _ d holds clean. stays_or d holds clean;
-    kept = λ _ _ _ _. tt;
+    preserved = λ _ _ _ _. tt;
     restart = λ _ running. absurd (let it = is in cc);
   }
 
@@ -86,7 +86,7 @@ module _ {S : Type 0} (g : Ghosts S) (file : StoreValue S) (given : SavedValue)
     saved = λ _ d holds. (same, running, holds);
     others = λ _ d holds clean. others_same d (trees_of g file.connection);
     stop = λ _ d holds clean. stays_or d holds clean;
-    kept = λ _ d holds clean.
+    preserved = λ _ d holds clean.
         subst (λ s. StopLeaves g d file.connection file.connection (HasFile d file.owner s)) same (stays d holds clean);
     restart = λ is _ d holds.
         restarts_none g file.connection d file.owner file.last given holds settled is;
@@ -113,7 +113,7 @@ module _ {S : Type 0} (g : Ghosts S) (file : StoreValue S) (given : SavedValue)
     saved = λ _ _ _. tt;
     others = λ _ _ _ _. tt;
     stop = λ _ d holds clean. stays_or d holds clean;
-    kept = λ _ _ _ _. tt;
+    preserved = λ _ _ _ _. tt;
     restart = λ is _ d holds.
         restarts_none g file.connection d file.owner file.last given holds settled is;
   }
@@ -158,7 +158,7 @@ module _ {S : Type 0} (g : Ghosts S) (file : StoreValue S) (conn : Held S) (last
     saved = λ _ _ _. tt;
     others = λ _ _ _ _. tt;
     stop = λ _ d holds. leaves_either d holds;
-    kept = λ _ _ _ _. tt;
+    preserved = λ _ _ _ _. tt;
     restart = λ is _ d holds.
         restarts g file.connection conn d file.owner file.last given front same holds clean settled commits
         (leaves_either d holds) is is_saved;
@@ -198,7 +198,7 @@ module _ {S : Type 0} (g : Ghosts S) (file : StoreValue S) (conn : Held S) (last
         );
         others = λ _ d holds. (holds' d holds).1;
         stop = λ _ d holds. leaves_either d holds;
-        kept = λ _ d holds late.
+        preserved = λ _ d holds late.
             let it = holds' d holds in
             leaves_held g conn d file given it.0 settled' late (it.1 late);
         restart = λ is _ d holds.

@@ -23,10 +23,10 @@ use Rattle.desk_saved.proofs.NodeRow.{node_any, node_unlisted, node_query, node_
 abbrev pub out_of : Row → Output
 out_of r = (column r 0 ∷ [], r)
 
-kept_is : (rows : List Row) → map (output (read_query 0)) (flat_map (λ r. ([] ∷ r ∷ []) ∷ []) rows) ≡ map out_of
+preserved_is : (rows : List Row) → map (output (read_query 0)) (flat_map (λ r. ([] ∷ r ∷ []) ∷ []) rows) ≡ map out_of
     (map shown_entry rows)
-kept_is [] = refl
-kept_is (r ∷ rows) = ap (λ l. out_of (shown_entry r) ∷ l) (kept_is rows)
+preserved_is [] = refl
+preserved_is (r ∷ rows) = ap (λ l. out_of (shown_entry r) ∷ l) (preserved_is rows)
 
 pub rows_of : (rows : List Row) → map (λ (o : Output). o.1) (map out_of rows) ≡ rows
 rows_of [] = refl
@@ -53,12 +53,13 @@ module _ (d : LogTables) (old new : State) (rows : List Row) (schema : old.now.s
         h in
         got.answer Null
 
-    kept : answer.kept ≡ map out_of (map shown_entry (old.now.trees d.entry.tree))
-    kept = answer.distinct ∙ ap (map (output (read_query 0)))
-        (let grouped = rw d.entry.stands.own.small at answer.grouped in grouped) ∙ kept_is (old.now.trees d.entry.tree)
+    preserved : answer.kept ≡ map out_of (map shown_entry (old.now.trees d.entry.tree))
+    preserved = answer.distinct ∙ ap (map (output (read_query 0)))
+        (let grouped = rw d.entry.stands.own.small at answer.grouped in grouped) ∙ preserved_is
+        (old.now.trees d.entry.tree)
 
     in_any_order : IsPermutation (map out_of (map shown_entry (old.now.trees d.entry.tree))) answer.ordered
-    in_any_order = subst (λ k. IsPermutation k answer.ordered) kept answer.same
+    in_any_order = subst (λ k. IsPermutation k answer.ordered) preserved answer.same
 
     -- the rows are those of the table, in some order
     pub entries_shown : IsPermutation rows (map shown_entry (old.now.trees d.entry.tree))
@@ -83,10 +84,10 @@ module _ (d : LogTables) (old new : State) (rows : List Row) (schema : old.now.s
         answer.sorted in
         answer.shown ∙ ap (λ os. map (λ (o : Output). o.1) os) order ∙ rows_of entries
 
-node_kept : (rows : List Row) → map (output (node_query 0)) (flat_map (λ r. ([] ∷ r ∷ []) ∷ []) rows) ≡ map
+node_preserved : (rows : List Row) → map (output (node_query 0)) (flat_map (λ r. ([] ∷ r ∷ []) ∷ []) rows) ≡ map
     (λ r. ([], shown_node r)) rows
-node_kept [] = refl
-node_kept (r ∷ rows) = ap (λ l. ([], shown_node r) ∷ l) (node_kept rows)
+node_preserved [] = refl
+node_preserved (r ∷ rows) = ap (λ l. ([], shown_node r) ∷ l) (node_preserved rows)
 
 node_rows_of : (rows : List Row) → map (λ (o : Output). o.1) (map (λ r. ([], shown_node r)) rows) ≡ map shown_node
     rows
@@ -102,11 +103,11 @@ node_shown d old new rows schema h =
     (Select (record { lets = []; body = node_query d.node.tree }) node_names) (ap command_of known)
     (subst IsPlain (sym known) (refl, refl)) (node_unlisted d.schema d.node.tree d.node.at d.node.stands) rows h in
     let answer : IsAnswer (node_query d.node.tree) (overlay old.now.trees []) [] rows = got.answer Null in
-    let kept : answer.kept ≡ map (λ r. ([], shown_node r)) (old.now.trees d.node.tree) =
+    let preserved : answer.kept ≡ map (λ r. ([], shown_node r)) (old.now.trees d.node.tree) =
     answer.distinct ∙ ap (map (output (node_query 0))) (let grouped = rw d.node.stands.own.small at answer.grouped in
-    grouped) ∙ node_kept (old.now.trees d.node.tree) in
+    grouped) ∙ node_preserved (old.now.trees d.node.tree) in
     let mixed = IsPermutation-map (λ (o : Output). o.1) _ _
-    (subst (λ k. IsPermutation k answer.ordered) kept answer.same) in
+    (subst (λ k. IsPermutation k answer.ordered) preserved answer.same) in
     IsPermutation-sym _ _ (subst (λ l. IsPermutation (map shown_node (old.now.trees d.node.tree)) l) (sym answer.shown)
     (subst (λ l. IsPermutation l (map (λ (o : Output). o.1) answer.ordered)) (node_rows_of (old.now.trees d.node.tree))
     mixed))

@@ -10,7 +10,7 @@ use Rattle.sqlite.proofs.StateLemmas.{survives_then}
 use Rattle.desk_types.specs.declared.command.Entry.{Entry}
 use Rattle.desk_saved.specs.DeskTables.{Layout, StateRows, Keeps, Leaves, IsInside}
 use Rattle.desk_saved.specs.File.{entry_row_at, rows_from}
-pub use Rattle.desk_saved.specs.KeptFile.{others_same, others_then}
+pub use Rattle.desk_saved.specs.SameFile.{others_same, others_then}
 
 pub leaves_then : (d : Layout) (a b c : State) (mid last : StateRows) → Leaves d a b mid → Leaves d b c last
     → Leaves d a c last

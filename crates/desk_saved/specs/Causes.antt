@@ -21,7 +21,7 @@ pub record RefusesRead {S : Type 0} (g : Ghosts S) (old new : Held S) : Type 0 w
   pub text : List ℕ
   pub reads : ReadsTable text
   pub error : Error
-  pub told : FailsToQuery text [] (state g before) (state g new) error
+  pub reported : FailsToQuery text [] (state g before) (state g new) error
 
 -- no transaction is open, and no savepoint stands, as where one was rolled back
 abbrev pub HasNoTransaction : State → Type 0

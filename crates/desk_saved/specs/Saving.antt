@@ -59,7 +59,7 @@ pub record HasSaved {S T : Type 0} (g : Ghosts S) (old new : StoreValue S) (give
   pub stop : WhereHeld g old (λ d. HasCleanDisk (state g new.connection)
       → StopLeaves g d old.connection new.connection
       (λ trees. HasFile d old.owner old.last trees ⊎ HasFile d old.owner given trees))
-  pub kept : WhereHeld g old (λ d. HasCleanDisk (state g new.connection)
+  pub preserved : WhereHeld g old (λ d. HasCleanDisk (state g new.connection)
       → OnOk result (StopLeaves g d old.connection new.connection (HasFile d old.owner given)))
   -- A database that shows what a stop leaves is that of the old state or of the new, as `open` finds it (`only`).
   pub restart : IsState old.last → WhereHeld g old (λ d. HasCleanDisk (state g new.connection)

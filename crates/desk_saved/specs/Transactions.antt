@@ -18,7 +18,7 @@ module _ {S : Type 0} (g : Ghosts S) (old new : Held S) where
   -- statements of an open transaction commit nothing, and leave it open where all went well
   pub record Quiet (result : Result (Unit {0}) Error) : Type 0 where
     pub survives : Survives (state g old) (state g new) (λ _. ⊥)
-    pub kept : HasCleanDisk (state g new) → KeepsCommit (state g old) (state g new)
+    pub preserved : HasCleanDisk (state g new) → KeepsCommit (state g old) (state g new)
     pub inside : HasCleanDisk (state g new) → IsTrue (state g old).in_transaction
         → OnOk result (IsTrue (state g new).in_transaction)
 

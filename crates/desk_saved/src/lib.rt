@@ -14,7 +14,6 @@ ghost use Rattle.desk_saved.specs.NewTables.{HasRoomForTables, Becomes};
 ghost use Rattle.desk_saved.specs.OldFile.{GrowsTo, HasOldTables, HasRoomForClients, IsGrown, IsOldFileOf};
 
 mod changes;
-mod kept_file;
 mod last_saved;
 mod limits;
 mod load;
@@ -23,6 +22,7 @@ mod old_file;
 mod rows;
 mod saved_state;
 mod shown;
+mod state_store;
 mod steps;
 mod transactions;
 

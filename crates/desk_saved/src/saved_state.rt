@@ -202,9 +202,9 @@ fn open_old<S: Alter>(
             connection,
             refusal: Refusal::WrongFile,
         }),
-        Err(told) => Err(OpenRefused {
+        Err(reported) => Err(OpenRefused {
             connection,
-            refusal: told,
+            refusal: reported,
         }),
     }
 }

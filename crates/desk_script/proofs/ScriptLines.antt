@@ -28,18 +28,18 @@ event_first (Some e) events more = sym (append_assoc events (e ∷ []) more)
 pub nothing_read : (script : List ℕ) → HasRead script [] 1 script
 nothing_read script = record { events_are = refl; first_is = refl }
 
-pub line_read : (script : List ℕ) (events after : List WorldEvent) (number : ℕ) (rest line behind : List ℕ) →
-    HasRead script events number rest → lines_of rest ≡ line ∷ lines_of behind → is_no_event line ≡ false →
-    after ≡ events ++ events_of (line ∷ []) → HasRead script after (number + 1) behind
-line_read script events after number rest line behind h cut taken after_is = record {
-  events_are = h.events_are ∙ rw (cut, after_is) (event_first (event_of line) events (events_of (lines_of behind)));
+pub line_read : (script : List ℕ) (events after : List WorldEvent) (number : ℕ) (rest line beyond : List ℕ) →
+    HasRead script events number rest → lines_of rest ≡ line ∷ lines_of beyond → is_no_event line ≡ false →
+    after ≡ events ++ events_of (line ∷ []) → HasRead script after (number + 1) beyond
+line_read script events after number rest line beyond h cut taken after_is = record {
+  events_are = h.events_are ∙ rw (cut, after_is) (event_first (event_of line) events (events_of (lines_of beyond)));
   first_is = h.first_is ∙ rw (cut, taken) refl;
 }
 
-pub no_event_read : (script : List ℕ) (events : List WorldEvent) (number : ℕ) (rest line behind : List ℕ) →
-    HasRead script events number rest → lines_of rest ≡ line ∷ lines_of behind → is_no_event line ≡ true →
+pub no_event_read : (script : List ℕ) (events : List WorldEvent) (number : ℕ) (rest line beyond : List ℕ) →
+    HasRead script events number rest → lines_of rest ≡ line ∷ lines_of beyond → is_no_event line ≡ true →
     first_no_event (lines_of script) ≡ Some number
-no_event_read script events number rest line behind h cut other = h.first_is ∙ rw (cut, other) refl
+no_event_read script events number rest line beyond h cut other = h.first_is ∙ rw (cut, other) refl
 
 pub all_events : (script : List ℕ) (events : List WorldEvent) (number : ℕ) → HasRead script events number [] →
     events ≡ events_of (lines_of script)
@@ -51,14 +51,14 @@ none_other script events number h = h.first_is
 
 pub was_taken : (line : List ℕ) {taken : Bool} → taken ≡ not (is_no_event line) → taken ≡ true →
     is_no_event line ≡ false
-was_taken line {taken} is told = not_true (is_no_event line) (sym is ∙ told)
+was_taken line {taken} is reported = not_true (is_no_event line) (sym is ∙ reported)
 
 pub was_not_taken : (line : List ℕ) {taken : Bool} → taken ≡ not (is_no_event line) → taken ≡ false →
     is_no_event line ≡ true
-was_not_taken line {taken} is told = not_false (is_no_event line) (sym is ∙ told)
+was_not_taken line {taken} is reported = not_false (is_no_event line) (sym is ∙ reported)
 
 -- an empty list of bytes
 pub nothing_left : (rest : List ℕ) {is_empty : Bool} → is_empty ≡ eqb (length rest) 0 → is_empty ≡ true → rest ≡ []
-nothing_left [] is told = refl
-nothing_left (x ∷ xs) is told = let zero : length (x ∷ xs) ≡ 0 = eqb-true (length (x ∷ xs)) 0 (sym is ∙ told) in
+nothing_left [] is reported = refl
+nothing_left (x ∷ xs) is reported = let zero : length (x ∷ xs) ≡ 0 = eqb-true (length (x ∷ xs)) 0 (sym is ∙ reported) in
     absurd (omega (arith, zero))

@@ -17,7 +17,7 @@ read_nothing fault left = ([], Consumes-nil left, λ _. no_reply_part [] tt)
 pub fails_first : (old : Traffic) (line : List ℕ) (fault : NodeFault) → FailsExchange old line fault old
 fails_first old line fault = record {
   asked = ([], request line, refl, Appends-nil old.sent);
-  told = read_nothing fault old.left;
+  reported = read_nothing fault old.left;
   same = refl;
 }
 
@@ -31,7 +31,7 @@ pub fails_later : (old : Traffic) (s t l m : Option (List ℕ)) (broken : Bool) 
     FailsExchange old line fault (traffic t m broken)
 fails_later old s t l m broken line bytes fault here whole a h = rw (← here) (record {
   asked = subst (AppendsPrefix s t) whole a;
-  told = h;
+  reported = h;
   same = refl;
 })
 
@@ -40,7 +40,7 @@ pub lacks_memory : (old new : Traffic) (line : List ℕ) (fault : NodeFault) →
     FailsExchange old line fault new → GivesUp old line refusals.WantOfMemory new
 lacks_memory old new line fault is h = record {
   asked = h.asked;
-  told = (h.told.0, h.told.1, λ e. absurd (cc));
+  reported = (h.reported.0, h.reported.1, λ e. absurd (cc));
   cause = inr (refl, h.same);
 }
 
@@ -51,6 +51,6 @@ pub breaks : (old new : Traffic) (s l : Option (List ℕ)) (broken : Bool) (line
 breaks old new s l broken line fault here is h =
     let k = rw (← here) at h in record {
       asked = k.asked;
-      told = (k.told.0, k.told.1, λ _. k.told.2 is);
+      reported = (k.reported.0, k.reported.1, λ _. k.reported.2 is);
       cause = inl (refl, refl);
     }

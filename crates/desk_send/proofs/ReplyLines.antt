@@ -28,20 +28,20 @@ pub no_reply_long : (came : List ℕ) → REPLY_BYTES < length came → IsReplyL
 no_reply_long came over h = absurd (omega (arith, over, h.fits))
 
 -- a run after a part of a line
-pub ends_behind : (is_end : Bool) (line run : List ℕ) → IsOneLine line → EndsAs is_end run →
+pub ends_after : (is_end : Bool) (line run : List ℕ) → IsOneLine line → EndsAs is_end run →
     EndsAs is_end (line ++ run)
-ends_behind true line run h k =
+ends_after true line run h k =
     (line ++ k.0, ap (λ l. line ++ l) k.1 ∙ sym (append_assoc line k.0 (10 ∷ [])), IsOneLine-append line k.0 h k.2)
-ends_behind false line run h k = IsOneLine-append line run h k
+ends_after false line run h k = IsOneLine-append line run h k
 
 -- the first line of some bytes and its newline
-pub ends_first : (bytes line behind : List ℕ) → IsCut bytes (Some (line, behind)) →
+pub ends_first : (bytes line beyond : List ℕ) → IsCut bytes (Some (line, beyond)) →
     EndsAs true (take (length line + 1) bytes)
-ends_first bytes line behind h = rw h.0 (line, take-append-add line (10 ∷ behind) 1, h.1)
+ends_first bytes line beyond h = rw h.0 (line, take-append-add line (10 ∷ beyond) 1, h.1)
 
-pub first_within : (bytes line behind : List ℕ) → IsCut bytes (Some (line, behind)) → length line + 1 ≤ length bytes
-first_within bytes line behind h =
-    omega (arith, ap length h.0, length-append line (10 ∷ behind))
+pub first_within : (bytes line beyond : List ℕ) → IsCut bytes (Some (line, beyond)) → length line + 1 ≤ length bytes
+first_within bytes line beyond h =
+    omega (arith, ap length h.0, length-append line (10 ∷ beyond))
 
 -- bytes that have no newline
 pub ends_nowhere : (bytes : List ℕ) → IsCut bytes None → EndsAs false (take (length bytes) bytes)
@@ -63,7 +63,7 @@ TakesRun is_end old new line after =
 pub read_on : (is_end : Bool) (old mid new : Option (List ℕ)) (line after : List ℕ) → Consumes old mid line →
     IsOneLine line → TakesRun is_end mid new line after → Consumes old new after × EndsAs is_end after
 read_on is_end old mid new line after read one t =
-    (rw t.1 (Consumes-trans old mid new line t.0 read t.4), rw t.1 (ends_behind is_end line t.0 one t.3))
+    (rw t.1 (Consumes-trans old mid new line t.0 read t.4), rw t.1 (ends_after is_end line t.0 one t.3))
 
 -- less room is left
 pub less_left : (most : ℕ) (is_end : Bool) (old new : Option (List ℕ)) (line after : List ℕ) → length line ≤ most →

@@ -14,7 +14,7 @@ use Rattle.desk_send.specs.Exchanges.{Traffic, request, Exchanged, GivesUp, Conv
 conversed_none : (a : Traffic) → Conversed a [] [] a
 conversed_none a = record {
   asked = Appends-nil a.sent;
-  told = Consumes-nil a.left;
+  reported = Consumes-nil a.left;
   whole = All-nil IsReplyLine;
   each = refl;
   same = refl;
@@ -25,7 +25,7 @@ conversed_more : (a b c : Traffic) (line reply : List ℕ) (lines replies : List
     Conversed b lines replies c → Conversed a (line ∷ lines) (reply ∷ replies) c
 conversed_more a b c line reply lines replies e k = record {
   asked = Appends-trans a.sent b.sent c.sent (request line) _ e.asked k.asked;
-  told = Consumes-trans a.left b.left c.left reply (joined replies) e.told k.told;
+  reported = Consumes-trans a.left b.left c.left reply (joined replies) e.reported k.reported;
   whole = All-cons IsReplyLine reply replies e.whole k.whole;
   each = ap suc k.each;
   same = k.same ∙ e.same;

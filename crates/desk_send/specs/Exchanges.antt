@@ -28,14 +28,14 @@ request line = if nat_lt LINE_BYTES (length line) then take LINE_BYTES line ++ 3
 -- The request went out, and the next line that the node gave is the reply.
 pub record Exchanged (old : Traffic) (line reply : List ℕ) (new : Traffic) : Type 0 where
   pub asked : Appends old.sent new.sent (request line)
-  pub told : Consumes old.left new.left reply
+  pub reported : Consumes old.left new.left reply
   pub whole : IsReplyLine reply
   pub same : new.is_broken ≡ old.is_broken
 
 -- A prefix of the request went out, and no reply line came.
 pub record FailsExchange (old : Traffic) (line : List ℕ) (fault : NodeFault) (new : Traffic) : Type 0 where
   pub asked : AppendsPrefix old.sent new.sent (request line)
-  pub told : ReadsNone fault old.left new.left
+  pub reported : ReadsNone fault old.left new.left
   pub same : new.is_broken ≡ old.is_broken
 
 -- what came where no reply did: at a fault of reading it is no reply line
@@ -46,7 +46,7 @@ ComesShort refusal old new =
 -- A prefix of the request went out, and no reply came: the node failed, or memory was refused.
 pub record GivesUp (old : Traffic) (line : List ℕ) (refusal : Refusal) (new : Traffic) : Type 0 where
   pub asked : AppendsPrefix old.sent new.sent (request line)
-  pub told : ComesShort refusal old.left new.left
+  pub reported : ComesShort refusal old.left new.left
   pub cause :
       ((refusal ≡ refusals.ReadFault) × (new.is_broken ≡ true))
       ⊎ ((refusal ≡ refusals.WantOfMemory) × (new.is_broken ≡ old.is_broken))
@@ -54,7 +54,7 @@ pub record GivesUp (old : Traffic) (line : List ℕ) (refusal : Refusal) (new : 
 -- The requests went out in order, and as many reply lines came, which are these.
 pub record Conversed (old : Traffic) (lines replies : List (List ℕ)) (new : Traffic) : Type 0 where
   pub asked : Appends old.sent new.sent (flat_map (λ line. request line) lines)
-  pub told : Consumes old.left new.left (joined replies)
+  pub reported : Consumes old.left new.left (joined replies)
   pub whole : All IsReplyLine replies
   pub each : length replies ≡ length lines
   pub same : new.is_broken ≡ old.is_broken

@@ -94,7 +94,7 @@ impl<B: BufRead, W: Write> Handler for NodeConnection<B, W> {
 
     ghost gives_up = { λ c line refusal after. GivesUp c line refusal after };
 
-    ghost kept = { λ _. tt };
+    ghost preserved = { λ _. tt };
 
     fn answer(self, line: &LineBuffer) -> (NodeConnection<B, W>, Result<ReplyText, Refusal>) {
         let mut connection = self;

@@ -20,7 +20,7 @@ fn through_newline(bytes: &[u8]) -> (usize, bool)
     ensures ends { EndsAs result.1 (take result.0 bytes.now) }
 {
     match split_at_first(bytes, b'\n') {
-        Some((line, _behind)) => (line.len() + 1, true),
+        Some((line, _after)) => (line.len() + 1, true),
         None => (bytes.len(), false),
     }
 }

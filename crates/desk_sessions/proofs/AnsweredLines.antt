@@ -8,8 +8,8 @@ use Rattle.desk_types.specs.declared.outcome.Outcome.TheVariants as outcomes
 use Rattle.desk_types.specs.declared.refusal.Refusal.{Refusal}
 use Rattle.desk_types.specs.declared.refusal.Refusal.TheVariants as refusals
 use Rattle.desk_published.specs.Reads.{HasFailedOnce}
-use Rattle.desk_published.specs.declared.told.ToldWord.{ToldWord}
-use Rattle.desk_published.specs.declared.told.ToldWord.TheVariants as words
+use Rattle.desk_published.specs.declared.reported.ReportedWord.{ReportedWord}
+use Rattle.desk_published.specs.declared.reported.ReportedWord.TheVariants as words
 use Rattle.desk_eido.specs.declared.ask.Ask.{Ask}
 use Rattle.desk_eido.specs.declared.ask.Ask.TheVariants as asks
 use Rattle.desk_eido.specs.Reading.{ReadsAs, ask_on_line}
@@ -21,10 +21,11 @@ use Rattle.desk_sessions.specs.Lines.{AnswersLine, IsAnswerTo, LeadsWithoutMemor
 prefix_same : (old new : List Entry) → new ≡ old → IsPrefix old new
 prefix_same old new e = rw e ([], append-nil old)
 
-by_word : (domain : List ℕ) (e : Entry) (w : ToldWord) (told old new : List Entry) (Failed : Type 0) (o : Outcome) →
-    ByWord domain e w told old new Failed o → IsPrefix old new
-by_word domain e (words.Refused r) told old new Failed o h = prefix_same old new h.0
-by_word domain e (words.Published n) told old new Failed o h = h.0
+by_word : (domain : List ℕ) (e : Entry) (w : ReportedWord) (reported old new : List Entry) (Failed : Type 0)
+    (o : Outcome) →
+    ByWord domain e w reported old new Failed o → IsPrefix old new
+by_word domain e (words.Refused r) reported old new Failed o h = prefix_same old new h.0
+by_word domain e (words.Published n) reported old new Failed o h = h.0
 
 by_answer : (domain : List ℕ) (e : Entry) (a : Result Saying Refusal) (old new : List Entry) (Failed : Type 0)
     (o : Outcome) →

@@ -10,38 +10,43 @@ use Rattle.desk_types.specs.declared.outcome.Outcome.TheVariants as outcomes
 use Rattle.desk_types.specs.declared.refusal.Refusal.TheVariants as refusals
 use Rattle.desk_board.specs.declared.row.Row.{Row}
 use Rattle.desk_board.specs.Log.{board_of}
-use Rattle.desk_published.specs.declared.told.ToldWord.{ToldWord}
-use Rattle.desk_published.specs.declared.told.ToldWord.TheVariants as words
-use Rattle.desk_published.specs.Told.{stands}
+use Rattle.desk_published.specs.declared.reported.ReportedWord.{ReportedWord}
+use Rattle.desk_published.specs.declared.reported.ReportedWord.TheVariants as words
+use Rattle.desk_published.specs.Reported.{stands}
 use Rattle.desk_published.specs.Laws.{HasRow}
-use Rattle.desk_published.proofs.ToldRows.{told_has_row}
+use Rattle.desk_published.proofs.ReportedRows.{reported_has_row}
 use Rattle.desk_sessions.specs.Sessions.{replied, of_row, IsByRow, ByWord}
 use Rattle.desk_sessions.specs.Laws.{SupersededByALater}
 
 -- a board that has the row, and what it makes of the request
-told_row : (domain : List ℕ) (list : List Entry) (client number : ℕ) (o : Outcome) → HasRow domain list client number →
+reported_row : (domain : List ℕ) (list : List Entry) (client number : ℕ) (o : Outcome) →
+    HasRow domain list client number →
     o ≡ replied client number (board_of domain list) → IsByRow domain list client number o
-told_row domain list client number o row e = (row.0, row.1, row.2, e ∙ ap (of_row client number) row.1)
+reported_row domain list client number o row e = (row.0, row.1, row.2, e ∙ ap (of_row client number) row.1)
 
 row_or : (domain : List ℕ) (list : List Entry) (client number : ℕ) (Failed : Type 0) (o : Outcome) →
     HasRow domain list client number → (o ≡ replied client number (board_of domain list))
     ⊎ ((o ≡ outcomes.Node client number refusals.NodeStopped) × Failed) →
     IsByRow domain list client number o
     ⊎ ((o ≡ outcomes.Node client number refusals.NodeStopped) × Failed)
-row_or domain list client number Failed o row (inl h) = inl (told_row domain list client number o row h)
+row_or domain list client number Failed o row (inl h) = inl (reported_row domain list client number o row h)
 row_or domain list client number Failed o row (inr h) = inr h
 
 -- a request that is told to be published
-pub by_published : (domain : List ℕ) (told old new : List Entry) (client number : ℕ) (word : ToldWord) (count : ℕ)
-    (e : Entry) (Failed : Type 0) (o : Outcome) → word ≡ words.Published count → stands told client number word ≡ true →
-    e.client ≡ client → e.number ≡ number → IsPrefix old new → IsPrefix told new →
+pub by_published : (domain : List ℕ) (reported old new : List Entry) (client number : ℕ) (word : ReportedWord)
+    (count : ℕ)
+    (e : Entry) (Failed : Type 0) (o : Outcome) → word ≡ words.Published count →
+    stands reported client number word ≡ true →
+    e.client ≡ client → e.number ≡ number → IsPrefix old new → IsPrefix reported new →
     (o ≡ replied client number (board_of domain new))
     ⊎ ((o ≡ outcomes.Node client number refusals.NodeStopped) × Failed) →
-    ByWord domain e word told old new Failed o
-by_published domain told old new client number word count e Failed o is s same_client same_number kept front h =
-    let s' : stands told client number (words.Published count) ≡ true = rw is at s in
-    let r = row_or domain new client number Failed o (told_has_row domain told new client number count s' front) h in
-    rw (is, same_client, same_number) (kept, front, r)
+    ByWord domain e word reported old new Failed o
+by_published domain reported old new client number word count e Failed o is s same_client same_number preserved front
+    h =
+    let s' : stands reported client number (words.Published count) ≡ true = rw is at s in
+    let r = row_or domain new client number Failed o
+    (reported_has_row domain reported new client number count s' front) h in
+    rw (is, same_client, same_number) (preserved, front, r)
 
 -- another number than that of the row
 superseded_at : (client number : ℕ) (row : Row) (same : Bool) → (row.number == number) ≡ same →

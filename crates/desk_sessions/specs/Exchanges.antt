@@ -3,11 +3,11 @@ use Rattle.std.specs.Prelude.{◌≡◌, ◌⊎◌, List, [], ◌∷◌, ◌++�
 use Rattle.desk_types.specs.declared.command.Entry.{Entry}
 use Rattle.desk_types.specs.declared.refusal.Refusal.{Refusal}
 use Rattle.desk_types.specs.declared.refusal.Refusal.TheVariants as refusals
-use Rattle.desk_published.specs.declared.told.ToldWord.{ToldWord}
+use Rattle.desk_published.specs.declared.reported.ReportedWord.{ReportedWord}
 
 -- a keeper's word, with what was published then
 pub record Saying : Type 0 where
-  pub word : ToldWord
+  pub word : ReportedWord
   pub published : List Entry
 
 -- a request, and what came of it
@@ -16,7 +16,7 @@ pub record Exchange : Type 0 where
   pub answer : Result Saying Refusal
 
 -- a word, told with what was published
-abbrev pub saying : ToldWord → List Entry → Saying
+abbrev pub saying : ReportedWord → List Entry → Saying
 saying word published = record { word = word; published = published }
 
 -- a request with its answer
@@ -35,5 +35,5 @@ Asked old new entry answer =
     GrowsByOne old new (exchange entry answer) ⊎ ((answer ≡ Err refusals.WantOfMemory) × (new ≡ old))
 
 -- No word of a keeper came: it has ended, or memory was refused.
-abbrev pub IsNoTold : Refusal → Type 0
-IsNoTold r = (r ≡ refusals.NodeStopped) ⊎ (r ≡ refusals.WantOfMemory)
+abbrev pub IsNoWord : Refusal → Type 0
+IsNoWord r = (r ≡ refusals.NodeStopped) ⊎ (r ≡ refusals.WantOfMemory)

@@ -15,8 +15,8 @@ use Rattle.desk_board.specs.Execute.{row_of}
 use Rattle.desk_board.specs.Log.{board_of}
 use Rattle.desk_board.specs.Shown.{shown_on}
 use Rattle.desk_published.specs.Reads.{HasFailedOnce}
-use Rattle.desk_published.specs.declared.told.ToldWord.{ToldWord}
-use Rattle.desk_published.specs.declared.told.ToldWord.TheVariants as words
+use Rattle.desk_published.specs.declared.reported.ReportedWord.{ReportedWord}
+use Rattle.desk_published.specs.declared.reported.ReportedWord.TheVariants as words
 use Rattle.desk_sessions.specs.Exchanges.{Exchange, Saying, Asked}
 
 -- Where a session stands: the published entries that it has seen or was told; what its line was asked and answered,
@@ -60,11 +60,11 @@ ReadsBoard domain on unread old new Failed outcome =
 
 -- What a keeper's word makes of the request. Where that is published, a board is read that goes on from what was told;
 -- it is 34 only where that read failed.
-abbrev pub ByWord : List ℕ → Entry → ToldWord → List Entry → List Entry → List Entry → Type 0 → Outcome → Type 0
-ByWord domain e (words.Refused r) told old new Failed outcome =
+abbrev pub ByWord : List ℕ → Entry → ReportedWord → List Entry → List Entry → List Entry → Type 0 → Outcome → Type 0
+ByWord domain e (words.Refused r) reported old new Failed outcome =
     (new ≡ old) × (outcome ≡ outcomes.Node e.client e.number r)
-ByWord domain e (words.Published count) told old new Failed outcome =
-    IsPrefix old new × IsPrefix told new
+ByWord domain e (words.Published count) reported old new Failed outcome =
+    IsPrefix old new × IsPrefix reported new
     × (IsByRow domain new e.client e.number outcome
     ⊎ ((outcome ≡ outcomes.Node e.client e.number refusals.NodeStopped) × Failed))
 

@@ -46,7 +46,7 @@ fn begins_request(bytes: &[u8], is_cut: bool) -> bool
     ensures { result ≡ begins_request is_cut (split_at 32 bytes.now) }
 {
     match split_at_first(bytes, b' ') {
-        Some((method, behind)) => is_method(method) && (is_cut || has_version(behind)),
+        Some((method, after)) => is_method(method) && (is_cut || has_version(after)),
         None => false,
     }
 }

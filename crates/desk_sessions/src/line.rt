@@ -2,9 +2,9 @@
 
 ghost use Rattle.std.specs.Prelude.{◌≡◌, IfOk, IfErr};
 ghost use Rattle.std.specs.Result.{result_map_both};
-ghost use Rattle.desk_sessions.specs.Exchanges.{Asked, IsNoTold, saying};
+ghost use Rattle.desk_sessions.specs.Exchanges.{Asked, IsNoWord, saying};
 
-use desk_published::{BoardName, Told};
+use desk_published::{BoardName, Reported};
 use desk_types::{Entry, Refusal};
 use std::sync::Wait;
 
@@ -17,17 +17,17 @@ pub trait Line<B: BoardName> {
     ghost exchanged: { Self → Option (List Exchange) };
 
     /// What no request changes.
-    ghost Kept: { Type 0 } = { Unit {0} };
+    ghost Preserved: { Type 0 } = { Unit {0} };
 
-    ghost kept: { Self → Self.Kept };
+    ghost preserved: { Self → Self.Preserved };
 
     /// Asks a request, and waits for the keeper's word of it. 34 where the keeper has ended, 40 where memory was
     /// refused.
-    fn ask<R: Wait>(self, rt: &R, entry: Entry) -> (Self, Result<Told<B>, Refusal>)
+    fn ask<R: Wait>(self, rt: &R, entry: Entry) -> (Self, Result<Reported<B>, Refusal>)
         // The word is that of this request.
-        ensures told { IfOk result.1 (λ t. (t.client ≡ entry.client) × (t.number ≡ entry.number)) }
-        ensures refused { IfErr result.1 IsNoTold }
+        ensures reported { IfOk result.1 (λ t. (t.client ≡ entry.client) × (t.number ≡ entry.number)) }
+        ensures refused { IfErr result.1 IsNoWord }
         ensures asked { Asked (exchanged self) (exchanged result.0) entry
             (result_map_both (λ t. saying t.word t.published) (λ r. r) result.1) }
-        ensures kept { kept result.0 ≡ kept self };
+        ensures preserved { preserved result.0 ≡ preserved self };
 }

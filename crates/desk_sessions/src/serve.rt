@@ -44,7 +44,7 @@ fn reply<R: Wait, B: BoardName, L: Line<B>>(
         (session_standing (L.exchanged session.line) session.reader.pass session.reader.failed_reads) text
         (bytes_of result.1)
         (session_standing (L.exchanged result.0.line) result.0.reader.pass result.0.reader.failed_reads) }
-    ensures kept { L.kept result.0.line ≡ L.kept session.line }
+    ensures preserved { L.preserved result.0.line ≡ L.preserved session.line }
 {
     let (session, read) = session.read(alloc, line);
     match read {
@@ -85,9 +85,9 @@ impl<'a, R: Wait, B: BoardName, L: Line<B>> Handler for Waiting<'a, R, B, L> {
 
     ghost gives_up = { EndsAtBrowserLine };
 
-    ghost Kept = { L.Kept };
+    ghost Preserved = { L.Preserved };
 
-    ghost kept = { λ s. L.kept s.session.line };
+    ghost preserved = { λ s. L.preserved s.session.line };
 
     fn answer(self, line: &LineBuffer) -> (Waiting<'a, R, B, L>, Result<ReplyText, Refusal>) {
         let Waiting { rt, alloc, session } = self;
@@ -139,7 +139,7 @@ pub fn serve_session<B: BoardName, L: Line<B>, I: Read, O: Write, G: Gate, R: Wa
         (result.0 ≡ session) × Keeps (O.contents writer.old) (O.contents writer.new))) }
     ensures fault { IfErr result.1 IsStreamFault }
     // However it ends, its line keeps what no request changes.
-    ensures kept { L.kept result.0.line ≡ L.kept session.line }
+    ensures preserved { L.preserved result.0.line ≡ L.preserved session.line }
 {
     let (waiting, outcome) = serve_lines(
         alloc,

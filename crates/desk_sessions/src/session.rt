@@ -10,7 +10,7 @@ ghost use Rattle.desk_eido.specs.declared.ask.Ask.TheVariants as asks;
 ghost use Rattle.desk_board.specs.Log.{board_of};
 ghost use Rattle.desk_lines.specs.Holding.{HoldsLine};
 ghost use Rattle.desk_published.specs.Reads.{HasFailedOnce};
-ghost use Rattle.desk_sessions.specs.Exchanges.{IsNoTold};
+ghost use Rattle.desk_sessions.specs.Exchanges.{IsNoWord};
 ghost use Rattle.desk_sessions.specs.Sessions.{session_standing, replied, AnswersAsk, GivesUpAnswer, ByWord, IfShow};
 
 use crate::line::Line;
@@ -18,7 +18,7 @@ use desk_arena::DocArena;
 use desk_board::Board;
 use desk_eido::Ask;
 use desk_lines::LineBuffer;
-use desk_published::{BoardName, BoardReader, Told, ToldWord};
+use desk_published::{BoardName, BoardReader, Reported, ReportedWord};
 use desk_types::limits::DOCUMENT_BYTES;
 use desk_types::{ClientId, Entry, Outcome, Refusal, RequestNumber, Show, WantOfMemory};
 use std::alloc::Global;
@@ -61,18 +61,18 @@ fn refused(client: ClientId, number: RequestNumber, refusal: Refusal) -> Outcome
 /// What comes of a request that is published.
 fn published<B: BoardName>(
     reader: BoardReader<B>,
-    told: &Told<B>,
+    reported: &Reported<B>,
 ) -> (BoardReader<B>, Result<Outcome, WantOfMemory>)
-    ensures kept { IsPrefix reader.pass result.0.pass }
-    ensures told { IsPrefix told.now.published result.0.pass }
+    ensures preserved { IsPrefix reader.pass result.0.pass }
+    ensures reported { IsPrefix reported.now.published result.0.pass }
     ensures ok { IfOk result.1 (λ o.
-        (o ≡ replied told.now.client told.now.number (board_of B.domain result.0.pass))
-        ⊎ ((o ≡ outcomes.Node told.now.client told.now.number refusals.NodeStopped)
+        (o ≡ replied reported.now.client reported.now.number (board_of B.domain result.0.pass))
+        ⊎ ((o ≡ outcomes.Node reported.now.client reported.now.number refusals.NodeStopped)
         × HasFailedOnce reader.failed_reads result.0.failed_reads)) }
 {
-    let client = told.client();
-    let number = told.number();
-    let reader = reader.learn(told);
+    let client = reported.client();
+    let number = reported.number();
+    let reader = reader.learn(reported);
     let (reader, outcome) = reader.read(|board| reply_on(board, client, number));
     match outcome {
         Some(outcome) => (reader, outcome),
@@ -83,31 +83,31 @@ fn published<B: BoardName>(
 /// What a keeper's word makes of its request.
 fn follow<B: BoardName>(
     reader: BoardReader<B>,
-    told: &Told<B>,
+    reported: &Reported<B>,
 ) -> (BoardReader<B>, Result<Outcome, WantOfMemory>)
-    ensures ok { IfOk result.1 (λ o. (e : Entry) → e.client ≡ told.now.client → e.number ≡ told.now.number →
-        ByWord B.domain e told.now.word told.now.published reader.pass result.0.pass
+    ensures ok { IfOk result.1 (λ o. (e : Entry) → e.client ≡ reported.now.client → e.number ≡ reported.now.number →
+        ByWord B.domain e reported.now.word reported.now.published reader.pass result.0.pass
         (HasFailedOnce reader.failed_reads result.0.failed_reads) o) }
     ensures err { OnErr result.1 (IsPrefix reader.pass result.0.pass) }
 {
-    let client = told.client();
-    let number = told.number();
-    match told.word() {
-        ToldWord::Refused(refusal) => match refusal.copy() {
+    let client = reported.client();
+    let number = reported.number();
+    match reported.word() {
+        ReportedWord::Refused(refusal) => match refusal.copy() {
             Ok(refusal) => (reader, Ok(refused(client, number, refusal))),
             Err(_) => (reader, Err(WantOfMemory)),
         },
-        ToldWord::Published(_) => published(reader, told),
+        ReportedWord::Published(_) => published(reader, reported),
     }
 }
 
 /// What comes of a request of which no word came.
-fn not_told(
+fn not_reported(
     client: ClientId,
     number: RequestNumber,
     refusal: Refusal,
 ) -> Result<Outcome, WantOfMemory>
-    requires { IsNoTold refusal }
+    requires { IsNoWord refusal }
     ensures ok { IfOk result (λ o. (refusal ≡ refusals.NodeStopped)
         × (o ≡ outcomes.Node client number refusals.NodeStopped)) }
     ensures err { OnErr result (refusal ≡ refusals.WantOfMemory) }
@@ -175,7 +175,7 @@ impl<B: BoardName, L: Line<B>> Session<B, L> {
         ensures err { OnErr result.1 (GivesUpAnswer (asks.Command entry)
             (session_standing (L.exchanged self.line) self.reader.pass self.reader.failed_reads)
             (session_standing (L.exchanged result.0.line) result.0.reader.pass result.0.reader.failed_reads)) }
-        ensures kept { L.kept result.0.line ≡ L.kept self.line }
+        ensures preserved { L.preserved result.0.line ≡ L.preserved self.line }
     {
         let Session {
             line,
@@ -185,8 +185,8 @@ impl<B: BoardName, L: Line<B>> Session<B, L> {
         let (client, number) = (entry.client, entry.number);
         let (line, answer) = line.ask(rt, entry);
         match answer {
-            Ok(told) => {
-                let (reader, outcome) = follow(reader, &told);
+            Ok(reported) => {
+                let (reader, outcome) = follow(reader, &reported);
                 (
                     Session {
                         line,
@@ -202,7 +202,7 @@ impl<B: BoardName, L: Line<B>> Session<B, L> {
                     reader,
                     arena,
                 },
-                not_told(client, number, refusal),
+                not_reported(client, number, refusal),
             ),
         }
     }
@@ -255,7 +255,7 @@ impl<B: BoardName, L: Line<B>> Session<B, L> {
             (session_standing (L.exchanged result.0.line) result.0.reader.pass result.0.reader.failed_reads)) }
         // A show asks the line nothing.
         ensures silent { IfShow ask (result.0.line ≡ self.line) }
-        ensures kept { L.kept result.0.line ≡ L.kept self.line }
+        ensures preserved { L.preserved result.0.line ≡ L.preserved self.line }
     {
         match ask {
             Ask::Command(entry) => self.command(rt, entry),

@@ -11,7 +11,7 @@ ghost use Rattle.desk_sessions.specs.Words.{HasMissedOnce};
 use crate::line::Line;
 use crate::words::KeeperWords;
 use desk_mailbox::{Item, Sender};
-use desk_published::{BoardName, Told};
+use desk_published::{BoardName, Reported};
 use desk_types::{Entry, Refusal};
 use std::sync::Wait;
 
@@ -20,7 +20,7 @@ use std::sync::Wait;
 pub struct Wire<B: BoardName> {
     pub sender: Sender<Item>,
     /// The keeper's words to this session.
-    pub told: KeeperWords<B>,
+    pub words: KeeperWords<B>,
 }
 
 /// Puts a session's request, and says whether it was put. It is not where the keeper has ended.
@@ -49,17 +49,17 @@ impl<B: BoardName> Line<B> for Wire<B> {
     ghost exchanged = { λ w. None };
 
     /// The number of its sender, by which the keeper knows the session.
-    ghost Kept = { ℕ };
+    ghost Preserved = { ℕ };
 
-    ghost kept = { λ w. w.sender.number };
+    ghost preserved = { λ w. w.sender.number };
 
     /// Puts the request, and waits for its word. Words of other requests are skipped. 34 where the keeper has ended.
-    fn ask<R: Wait>(self, rt: &R, entry: Entry) -> (Wire<B>, Result<Told<B>, Refusal>)
-        ensures told { IfOk result.1 (λ t. (t.client ≡ entry.client) × (t.number ≡ entry.number)) }
+    fn ask<R: Wait>(self, rt: &R, entry: Entry) -> (Wire<B>, Result<Reported<B>, Refusal>)
+        ensures reported { IfOk result.1 (λ t. (t.client ≡ entry.client) × (t.number ≡ entry.number)) }
         ensures refused { IfErr result.1 (λ r. r ≡ refusals.NodeStopped) }
         // It is refused only where the mailbox did not take the request, or the channel told that no word will come.
         ensures ended { OnErr result.1 (HasRefusedOnce self.sender result.0.sender
-            ⊎ HasMissedOnce self.told.missed result.0.told.missed) }
+            ⊎ HasMissedOnce self.words.missed result.0.words.missed) }
         ensures asked { Asked None None entry
             (result_map_both (λ t. saying t.word t.published) (λ r. r) result.1) }
         // A request of which a word came was put once, and any other at most once.
@@ -68,18 +68,18 @@ impl<B: BoardName> Line<B> for Wire<B> {
             (λ _. (put_by result.0.sender ≡ put_by self.sender)
             ⊎ (put_by result.0.sender ≡ put_by self.sender ++ items.Request self.sender.number entry ∷ [])) }
         ensures sender { IsSameSender self.sender result.0.sender }
-        ensures kept { result.0.sender.number ≡ self.sender.number }
+        ensures preserved { result.0.sender.number ≡ self.sender.number }
     {
-        let Wire { sender, told } = self;
+        let Wire { sender, words } = self;
         let (client, number) = (entry.client, entry.number);
         let (sender, is_put) = put_request(rt, sender, entry);
         if !is_put {
-            return (Wire { sender, told }, Err(Refusal::NodeStopped));
+            return (Wire { sender, words }, Err(Refusal::NodeStopped));
         }
-        let (told, word) = told.await_word(rt, client, number);
+        let (words, word) = words.await_word(rt, client, number);
         match word {
-            Some(word) => (Wire { sender, told }, Ok(word)),
-            None => (Wire { sender, told }, Err(Refusal::NodeStopped)),
+            Some(word) => (Wire { sender, words }, Ok(word)),
+            None => (Wire { sender, words }, Err(Refusal::NodeStopped)),
         }
     }
 }

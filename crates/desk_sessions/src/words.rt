@@ -4,28 +4,28 @@ ghost use Rattle.std.specs.Prelude.{◌≡◌, MatchOption};
 ghost use Rattle.desk_sessions.specs.Words.{HasMissedOnce};
 
 use crossbeam_channel::Receiver;
-use desk_published::{BoardName, Told};
+use desk_published::{BoardName, Reported};
 use desk_types::{ClientId, RequestNumber};
 use std::sync::Wait;
 
 /// The keeper's words to a session. It counts how often it was told that none will come.
 #[derive(Drop)]
 pub struct KeeperWords<B: BoardName> {
-    channel: Receiver<Told<B>>,
+    channel: Receiver<Reported<B>>,
     /// How often no word could come; the count begins again after its greatest value.
     missed: u64,
 }
 
 impl<B: BoardName> KeeperWords<B> {
     /// The words of this channel, none of which was missed.
-    pub fn new(channel: Receiver<Told<B>>) -> KeeperWords<B>
+    pub fn new(channel: Receiver<Reported<B>>) -> KeeperWords<B>
         ensures missed { result.missed ≡ 0 }
     {
         KeeperWords { channel, missed: 0 }
     }
 
     /// The channel of the words.
-    pub fn into_channel(self) -> Receiver<Told<B>> {
+    pub fn into_channel(self) -> Receiver<Reported<B>> {
         let KeeperWords { channel, missed: _ } = self;
         channel
     }
@@ -37,7 +37,7 @@ impl<B: BoardName> KeeperWords<B> {
         rt: &R,
         client: ClientId,
         number: RequestNumber,
-    ) -> (KeeperWords<B>, Option<Told<B>>)
+    ) -> (KeeperWords<B>, Option<Reported<B>>)
         ensures word { MatchOption result.1 (HasMissedOnce self.missed result.0.missed)
             (λ t. (t.client ≡ client) × (t.number ≡ number) × (result.0.missed ≡ self.missed)) }
     {

@@ -14,6 +14,6 @@ greatest_behind (b ∷ nodes) a = ap (max (place_or_zero b)) (greatest_behind no
 pub greatest_more : (nodes : List NodeAnswer) (i : ℕ) (d : NodeAnswer) (place before greatest : ℕ) → i < length nodes →
     place ≡ place_or_zero (get_or nodes i d) → greatest ≡ max place before → before ≡ greatest_place (take i nodes) →
     greatest ≡ greatest_place (take (i + 1) nodes)
-greatest_more nodes i d place before greatest within told_is is before_is =
-    is ∙ (λ k. max (told_is k) (before_is k)) ∙ sym (greatest_behind (take i nodes) (get_or nodes i d))
+greatest_more nodes i d place before greatest within announced_is is before_is =
+    is ∙ (λ k. max (announced_is k) (before_is k)) ∙ sym (greatest_behind (take i nodes) (get_or nodes i d))
     ∙ sym (ap greatest_place (take_more nodes i d within))

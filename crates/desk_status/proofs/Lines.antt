@@ -37,20 +37,20 @@ one_more greatest nodes i d within =
     ∙ ap (λ l. lines_from greatest 0 (take i nodes) ++ l) (append-nil (status_line greatest i (get_or nodes i d)))
 
 -- the lines of those after a node
-abbrev rest_behind : ℕ → List NodeAnswer → ℕ → List ℕ
-rest_behind greatest nodes i = lines_from greatest (0 + length (take (i + 1) nodes)) (drop (i + 1) nodes)
+abbrev rest_after : ℕ → List NodeAnswer → ℕ → List ℕ
+rest_after greatest nodes i = lines_from greatest (0 + length (take (i + 1) nodes)) (drop (i + 1) nodes)
 
 -- the lines of all nodes are those before one, its own, and those after it
 cut_at : (greatest : ℕ) (nodes : List NodeAnswer) (i : ℕ) (d : NodeAnswer) → i < length nodes →
     lines_from greatest 0 nodes
     ≡ lines_from greatest 0 (take i nodes)
-    ++ (status_line greatest i (get_or nodes i d) ++ rest_behind greatest nodes i)
+    ++ (status_line greatest i (get_or nodes i d) ++ rest_after greatest nodes i)
 cut_at greatest nodes i d within =
     ap (lines_from greatest 0) (sym (take-append-drop (i + 1) nodes))
     ∙ lines_behind greatest 0 (take (i + 1) nodes) (drop (i + 1) nodes)
-    ∙ ap (λ l. l ++ rest_behind greatest nodes i) (one_more greatest nodes i d within)
+    ∙ ap (λ l. l ++ rest_after greatest nodes i) (one_more greatest nodes i d within)
     ∙ append_assoc (lines_from greatest 0 (take i nodes)) (status_line greatest i (get_or nodes i d))
-    (rest_behind greatest nodes i)
+    (rest_after greatest nodes i)
 
 -- one line more was written
 pub wrote_more : (greatest : ℕ) (a b c : Option (List ℕ)) (nodes : List NodeAnswer) (i : ℕ) (d : NodeAnswer) →
@@ -83,10 +83,10 @@ pub down_is : (greatest node : ℕ) (a : NodeAnswer) → a ≡ answers.Down →
 unfolding status_line
 down_is greatest node a is = rw is refl
 
-pub up_is : (greatest node place milliseconds behind : ℕ) (a : NodeAnswer) → a ≡ answers.Up place milliseconds →
-    behind ≡ greatest - place →
+pub up_is : (greatest node place milliseconds after : ℕ) (a : NodeAnswer) → a ≡ answers.Up place milliseconds →
+    after ≡ greatest - place →
     codes "node " ++ (decimal node ++ (codes ": up, place " ++ (decimal place ++ (codes ", "
-    ++ (decimal behind ++ (codes " behind, " ++ (decimal milliseconds ++ codes " ms\n")))))))
+    ++ (decimal after ++ (codes " behind, " ++ (decimal milliseconds ++ codes " ms\n")))))))
     ≡ status_line greatest node a
 unfolding status_line
-up_is greatest node place milliseconds behind a is behind_is = rw (is, behind_is) refl
+up_is greatest node place milliseconds after a is after_is = rw (is, after_is) refl

@@ -8,20 +8,20 @@ use Rattle.desk_node.specs.declared.event.Event.TheVariants as events
 use Rattle.desk_node.specs.NodeValue.{NodeValue, DoesStep}
 use Rattle.desk_node.specs.Rules.{node_step}
 use Rattle.desk_threads.specs.Keeper.{suspects, tick_event}
-use Rattle.desk_threads.specs.KeptValue.{KeptValue}
+use Rattle.desk_threads.specs.OwnedValue.{OwnedValue}
 use Rattle.desk_threads.specs.ItemAnswers.{Answers}
 
-pub request_answers : (old : KeptValue) (new : NodeValue) (session : ℕ) (entry : Entry)
+pub request_answers : (old : OwnedValue) (new : NodeValue) (session : ℕ) (entry : Entry)
     (packets : List (ℕ × Message)) (answers : List Outcome) →
     DoesStep old.node (events.Request entry) new packets answers → Answers old (items.Request session entry) answers
 request_answers old new session entry packets answers does received says = (does received says).answers_are
 
-pub packet_answers : (old : KeptValue) (new : NodeValue) (p : Message) (packets : List (ℕ × Message))
+pub packet_answers : (old : OwnedValue) (new : NodeValue) (p : Message) (packets : List (ℕ × Message))
     (answers : List Outcome) → DoesStep old.node (events.Packet p) new packets answers →
     Answers old (items.Packet p) answers
 packet_answers old new p packets answers does received says = (does received says).answers_are
 
-pub tick_answers : (old : KeptValue) (new : NodeValue) (packets : List (ℕ × Message)) (answers : List Outcome)
+pub tick_answers : (old : OwnedValue) (new : NodeValue) (packets : List (ℕ × Message)) (answers : List Outcome)
     (late : Bool) → late ≡ suspects old.node.id old.node.n old.node.saved old.ticks →
     DoesStep old.node (tick_event late) new packets answers → Answers old items.Tick answers
 tick_answers old new packets answers late is does received says =

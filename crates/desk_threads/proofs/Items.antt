@@ -15,13 +15,13 @@ use Rattle.desk_node.specs.Rules.{node_step}
 use Rattle.desk_node.specs.State.{State}
 use Rattle.desk_threads.specs.Keeper.{KeeperState, with_ticks, suspects, tick_event, ticks_after_tick}
 use Rattle.desk_threads.specs.Keeper.{ticks_after_packet}
-use Rattle.desk_threads.specs.KeptValue.{KeptValue, state_of, IsStepTo, DoesItem}
+use Rattle.desk_threads.specs.OwnedValue.{OwnedValue, state_of, IsStepTo, DoesItem}
 
 abbrev made : State → ℕ → ℕ → KeeperState
 made node ticks refused = record { node = node; ticks = ticks; refused = refused }
 
 -- a step of the node, with the ticks and the count as they are then
-stepped : (old new : KeptValue) (event : Event) (packets : List (ℕ × Message)) (answers : List Outcome)
+stepped : (old new : OwnedValue) (event : Event) (packets : List (ℕ × Message)) (answers : List Outcome)
     (ticks : ℕ) (received : List Message) → DoesStep old.node event new.node packets answers →
     new.ticks ≡ ticks → new.refused ≡ old.refused → Says old.node.n old.node.saved.view received old.node.heard →
     IsStepTo old.node.n
@@ -46,13 +46,13 @@ stepped old new event packets answers ticks received does t r says =
       packets_are = d.packets_are;
     }
 
-pub request_does : (old new : KeptValue) (session : ℕ) (entry : Entry) (packets : List (ℕ × Message))
+pub request_does : (old new : OwnedValue) (session : ℕ) (entry : Entry) (packets : List (ℕ × Message))
     (answers : List Outcome) → DoesStep old.node (events.Request entry) new.node packets answers →
     new.ticks ≡ old.ticks → new.refused ≡ old.refused → DoesItem old (items.Request session entry) packets new
 request_does old new session entry packets answers does t r received says =
     stepped old new (events.Request entry) packets answers old.ticks received does t r says
 
-pub packet_does : (old new : KeptValue) (p : Message) (packets : List (ℕ × Message))
+pub packet_does : (old new : OwnedValue) (p : Message) (packets : List (ℕ × Message))
     (answers : List Outcome) → DoesStep old.node (events.Packet p) new.node packets answers →
     new.ticks ≡ ticks_after_packet old.node.n p new.node.saved old.ticks → new.refused ≡ old.refused →
     DoesItem old (items.Packet p) packets new
@@ -63,7 +63,7 @@ packet_does old new p packets answers does t r received says =
     stepped old new (events.Packet p) packets answers (ticks_after_packet old.node.n p s.node.saved old.ticks)
     received does (t ∙ ap (λ (s : SavedValue). ticks_after_packet old.node.n p s old.ticks) d.saved_is) r says
 
-pub tick_does : (old new : KeptValue) (packets : List (ℕ × Message)) (answers : List Outcome) (late : Bool) →
+pub tick_does : (old new : OwnedValue) (packets : List (ℕ × Message)) (answers : List Outcome) (late : Bool) →
     late ≡ suspects old.node.id old.node.n old.node.saved old.ticks →
     DoesStep old.node (tick_event late) new.node packets answers →
     new.ticks ≡ ticks_after_tick late old.ticks → new.refused ≡ old.refused → DoesItem old items.Tick packets new
@@ -76,11 +76,11 @@ tick_does old new packets answers late is does t r received says =
     new packets) is
     (stepped old new (tick_event late) packets answers (ticks_after_tick late old.ticks) received does t r says)
 
-pub stop_does : (old new : KeptValue) (packets : List (ℕ × Message)) → new ≡ old → packets ≡ [] →
+pub stop_does : (old new : OwnedValue) (packets : List (ℕ × Message)) → new ≡ old → packets ≡ [] →
     DoesItem old items.Stop packets new
 stop_does old new packets same none received says = record {
   keeper = record {
-    state_is = ap (λ (k : KeptValue). state_of k received) (sym same);
+    state_is = ap (λ (k : OwnedValue). state_of k received) (sym same);
     says = rw same says;
   };
   packets_are = none;

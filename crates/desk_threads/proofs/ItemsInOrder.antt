@@ -5,8 +5,8 @@ use Rattle.desk_types.specs.declared.packet.Message.{Message}
 use Rattle.desk_mailbox.specs.declared.item.Item.{Item}
 use Rattle.desk_node.specs.Heard.{Says}
 use Rattle.desk_node.specs.NodeValue.{NodeValue, IsSameNode}
-use Rattle.desk_threads.specs.Keeper.{KeeperState, KeeperStep, keeper_step, refused_one, TakesItem, kept}
-use Rattle.desk_threads.specs.KeptValue.{KeptValue, state_of, IsStateOf, DoesItem, with_one_refused, DoesItems}
+use Rattle.desk_threads.specs.Keeper.{KeeperState, KeeperStep, keeper_step, refused_one, TakesItem, TakesItems}
+use Rattle.desk_threads.specs.OwnedValue.{OwnedValue, state_of, IsStateOf, DoesItem, with_one_refused, DoesItems}
 
 same_refl : (a : NodeValue) → IsSameNode a a
 same_refl a = record { domain_is = refl; id_is = refl; n_is = refl }
@@ -18,26 +18,27 @@ same_trans a b c h k = record {
   n_is = k.n_is ∙ h.n_is;
 }
 
-kept_then : (domain : List ℕ) (i n : ℕ) (k m new : KeeperState) (items more : List Item)
-    (packets others : List (ℕ × Message)) → kept domain i n k items packets m → kept domain i n m more others new →
-    kept domain i n k (items ++ more) (packets ++ others) new
-kept_then domain i n k m new [] more packets others h t =
-    subst (λ (x : KeeperState). kept domain i n x more (packets ++ others) new) h.0
-    (subst (λ (w : List (ℕ × Message)). kept domain i n m more (w ++ others) new) (sym h.1) t)
-kept_then domain i n k m new (x ∷ xs) more packets others (mid, first, rest, t, r, e) u = (
+preserved_then : (domain : List ℕ) (i n : ℕ) (k m new : KeeperState) (items more : List Item)
+    (packets others : List (ℕ × Message)) → TakesItems domain i n k items packets m →
+    TakesItems domain i n m more others new →
+    TakesItems domain i n k (items ++ more) (packets ++ others) new
+preserved_then domain i n k m new [] more packets others h t =
+    subst (λ (x : KeeperState). TakesItems domain i n x more (packets ++ others) new) h.0
+    (subst (λ (w : List (ℕ × Message)). TakesItems domain i n m more (w ++ others) new) (sym h.1) t)
+preserved_then domain i n k m new (x ∷ xs) more packets others (mid, first, rest, t, r, e) u = (
   mid,
   first,
   rest ++ others,
   t,
-  kept_then domain i n mid m new xs more rest others r u,
+  preserved_then domain i n mid m new xs more rest others r u,
   ap (λ w. w ++ others) e ∙ append_assoc first rest others,
 )
 
-kept_one : (domain : List ℕ) (i n : ℕ) (k new : KeeperState) (item : Item) (packets : List (ℕ × Message)) →
-    TakesItem domain i n k item packets new → kept domain i n k (item ∷ []) packets new
-kept_one domain i n k new item packets t = (new, packets, [], t, (refl, refl), sym (append-nil packets))
+preserved_one : (domain : List ℕ) (i n : ℕ) (k new : KeeperState) (item : Item) (packets : List (ℕ × Message)) →
+    TakesItem domain i n k item packets new → TakesItems domain i n k (item ∷ []) packets new
+preserved_one domain i n k new item packets t = (new, packets, [], t, (refl, refl), sym (append-nil packets))
 
-pub keeps_none : (k : KeptValue) → DoesItems k [] [] k
+pub keeps_none : (k : OwnedValue) → DoesItems k [] [] k
 keeps_none k = record {
   same = same_refl k.node;
   keeps = λ received says. (state_of k received, (refl, refl), record { state_is = refl; says = says });
@@ -47,7 +48,7 @@ keeps_none k = record {
 abbrev step_to : KeeperState → List (ℕ × Message) → KeeperStep
 step_to k packets = record { keeper = k; packets = packets }
 
-pub keeps_one : (k new : KeptValue) (item : Item) (packets : List (ℕ × Message)) → DoesItem k item packets new →
+pub keeps_one : (k new : OwnedValue) (item : Item) (packets : List (ℕ × Message)) → DoesItem k item packets new →
     IsSameNode k.node new.node → DoesItems k (item ∷ []) packets new
 keeps_one k new item packets does same = record {
   same = same;
@@ -55,24 +56,24 @@ keeps_one k new item packets does same = record {
       let d = does received says in
       let s = keeper_step k.node.domain k.node.id k.node.n (state_of k received) item in (
         s.keeper,
-        kept_one k.node.domain k.node.id k.node.n (state_of k received) s.keeper item packets
+        preserved_one k.node.domain k.node.id k.node.n (state_of k received) s.keeper item packets
             (inl (ap (step_to s.keeper) d.packets_are)),
         d.keeper,
       );
 }
 
-pub keeps_refused : (k new : KeptValue) (item : Item) → new ≡ with_one_refused k → DoesItems k (item ∷ []) [] new
-keeps_refused k new item e = subst (λ (x : KeptValue). DoesItems k (item ∷ []) [] x) (sym e) (record {
+pub keeps_refused : (k new : OwnedValue) (item : Item) → new ≡ with_one_refused k → DoesItems k (item ∷ []) [] new
+keeps_refused k new item e = subst (λ (x : OwnedValue). DoesItems k (item ∷ []) [] x) (sym e) (record {
   same = same_refl k.node;
   keeps = λ received says. (
     refused_one (state_of k received),
-    kept_one k.node.domain k.node.id k.node.n (state_of k received) (refused_one (state_of k received)) item []
+    preserved_one k.node.domain k.node.id k.node.n (state_of k received) (refused_one (state_of k received)) item []
         (inr (refl, refl)),
     record { state_is = refl; says = says },
   );
 })
 
-pub keeps_then : (k m new : KeptValue) (items more : List Item) (packets others : List (ℕ × Message)) →
+pub keeps_then : (k m new : OwnedValue) (items more : List Item) (packets others : List (ℕ × Message)) →
     DoesItems k items packets m → DoesItems m more others new → DoesItems k (items ++ more) (packets ++ others) new
 keeps_then k m new items more packets others a b = record {
   same = same_trans k.node m.node new.node a.same b.same;
@@ -83,14 +84,15 @@ keeps_then k m new items more packets others a b = record {
       let two = b.keeps mid.node.received
       (subst (λ n. Says n m.node.saved.view mid.node.received m.node.heard) (sym a.same.n_is) at.says) in
       let end : KeeperState = two.0 in
-      let rest : kept k.node.domain k.node.id k.node.n mid more others end =
-      subst (λ (x : KeeperState). kept k.node.domain k.node.id k.node.n x more others end) (sym at.state_is)
-      (subst (λ n. kept k.node.domain k.node.id n (state_of m mid.node.received) more others end) a.same.n_is
-      (subst (λ i. kept k.node.domain i m.node.n (state_of m mid.node.received) more others end) a.same.id_is
-      (subst (λ d. kept d m.node.id m.node.n (state_of m mid.node.received) more others end) a.same.domain_is
+      let rest : TakesItems k.node.domain k.node.id k.node.n mid more others end =
+      subst (λ (x : KeeperState). TakesItems k.node.domain k.node.id k.node.n x more others end) (sym at.state_is)
+      (subst (λ n. TakesItems k.node.domain k.node.id n (state_of m mid.node.received) more others end) a.same.n_is
+      (subst (λ i. TakesItems k.node.domain i m.node.n (state_of m mid.node.received) more others end) a.same.id_is
+      (subst (λ d. TakesItems d m.node.id m.node.n (state_of m mid.node.received) more others end) a.same.domain_is
       two.1))) in (
         end,
-        kept_then k.node.domain k.node.id k.node.n (state_of k received) mid end items more packets others one.1 rest,
+        preserved_then k.node.domain k.node.id k.node.n (state_of k received) mid end items more packets others one.1
+            rest,
         subst (λ n. IsStateOf n new end) a.same.n_is two.2,
       );
 }

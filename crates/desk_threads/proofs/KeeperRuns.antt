@@ -6,7 +6,7 @@ use Rattle.desk_log.specs.SavedValue.{SavedValue}
 use Rattle.desk_mailbox.specs.declared.item.Item.{Item}
 use Rattle.desk_mailbox.specs.declared.rule.SentItem.{SentItem}
 use Rattle.desk_threads.specs.declared.handing.Out.{Ghosts}
-use Rattle.desk_threads.specs.KeptValue.{KeptValue, DoesItems}
+use Rattle.desk_threads.specs.OwnedValue.{OwnedValue, DoesItems}
 use Rattle.desk_threads.proofs.ItemsInOrder.{keeps_none, keeps_then}
 use Rattle.desk_log.specs.declared.state_store.StateStore.{Ghosts as StoreGhosts}
 use Rattle.desk_threads.specs.Filed.{IsFiled}
@@ -25,11 +25,11 @@ abbrev pub TakesThen : {O : Type 0} → Ghosts O → Type 0
 TakesThen {O} g = (old mid new : O) → (first last : List (ℕ × Message)) → g.takes old first mid →
     g.takes mid last new → g.takes old (first ++ last) new
 
-pub ran_none : {O : Type 0} (g : Ghosts O) → TakesNone g → (b : List (SentItem Item)) (k : KeptValue) (o : O) →
+pub ran_none : {O : Type 0} (g : Ghosts O) → TakesNone g → (b : List (SentItem Item)) (k : OwnedValue) (o : O) →
     Ran g b k o b k o
 ran_none g none b k o = ([], [], sym (append-nil b), keeps_none k, none o)
 
-pub ran_then : {O : Type 0} (g : Ghosts O) → TakesThen g → (b m a : List (SentItem Item)) (k k1 k2 : KeptValue)
+pub ran_then : {O : Type 0} (g : Ghosts O) → TakesThen g → (b m a : List (SentItem Item)) (k k1 k2 : OwnedValue)
     (o o1 o2 : O) → Ran g b k o m k1 o1 → Ran g m k1 o1 a k2 o2 → Ran g b k o a k2 o2
 ran_then g more b m a k k1 k2 o o1 o2 (s1, p1, e1, h1, g1) (s2, p2, e2, h2, g2) = (
   s1 ++ s2,
@@ -46,11 +46,11 @@ pub filed_then : {S : Type 0} (g : StoreGhosts S) (old mid new : S) (one two : S
     → IsFiled g mid new two
     → IsFiled g old new two
 filed_then g old mid new one two further a b =
-    record { running = b.running; last = b.last; kept = further old mid new a.kept b.kept }
+    record { running = b.running; last = b.last; keeps = further old mid new a.keeps b.keeps }
 
 pub filed_still : {S : Type 0} (g : StoreGhosts S) (store : S) (saved : SavedValue) → ((a : S) → g.keeps a a) →
     g.stopped store ≡ false → g.last store ≡ saved → IsFiled g store store saved
-filed_still g store saved still running last = record { running = running; last = last; kept = still store }
+filed_still g store saved still running last = record { running = running; last = last; keeps = still store }
 
 pub filed_same : {S : Type 0} (g : StoreGhosts S) (old new : S) (was saved : SavedValue)
     → ((a : S) → g.keeps a a)

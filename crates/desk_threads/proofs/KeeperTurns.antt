@@ -8,7 +8,7 @@ use Rattle.desk_mailbox.specs.declared.item.Item.{Item}
 use Rattle.desk_mailbox.specs.declared.item.Item.TheVariants as items
 use Rattle.desk_mailbox.specs.declared.rule.SentItem.{SentItem}
 use Rattle.desk_threads.specs.declared.handing.Out.{Ghosts}
-use Rattle.desk_threads.specs.KeptValue.{KeptValue}
+use Rattle.desk_threads.specs.OwnedValue.{OwnedValue}
 use Rattle.desk_threads.specs.Waiting.{SessionValue}
 use Rattle.desk_log.specs.declared.state_store.StateStore.{Ghosts as StoreGhosts}
 use Rattle.desk_threads.specs.Runs.{items_in, Ran, RanToLast, Stand, stand, TakesTurn, TakesTurns, RanInTurns}
@@ -117,34 +117,34 @@ end_run_out g s most b a old new ended (end, ran, inr how) = inr how.0
 -- What ran in turns ran.
 takes_ran : {O S : Type 0} (g : Ghosts O) (s : StoreGhosts S) → TakesNone g → TakesThen g → (most : ℕ)
     (turns : List (List (SentItem Item))) (b : List (SentItem Item)) (old new : Stand O S) →
-    TakesTurns g s most turns old new → Ran g b old.kept old.out (b ++ joined turns) new.kept new.out
+    TakesTurns g s most turns old new → Ran g b old.owned old.out (b ++ joined turns) new.owned new.out
 takes_ran g s none then most [] b old new e =
-    subst (λ w. Ran g b old.kept old.out w new.kept new.out) (sym (append-nil b))
-    (subst (λ (w : Stand _ _). Ran g b old.kept old.out b w.kept w.out) e (ran_none g none b old.kept old.out))
+    subst (λ w. Ran g b old.owned old.out w new.owned new.out) (sym (append-nil b))
+    (subst (λ (w : Stand _ _). Ran g b old.owned old.out b w.owned w.out) e (ran_none g none b old.owned old.out))
 takes_ran g s none then most (x ∷ xs) b old new (mid, one, more) =
-    subst (λ w. Ran g b old.kept old.out w new.kept new.out) (append_assoc b x (joined xs))
-    (ran_then g then b (b ++ x) ((b ++ x) ++ joined xs) old.kept mid.kept new.kept old.out mid.out new.out
+    subst (λ w. Ran g b old.owned old.out w new.owned new.out) (append_assoc b x (joined xs))
+    (ran_then g then b (b ++ x) ((b ++ x) ++ joined xs) old.owned mid.owned new.owned old.out mid.out new.out
     (x, one.packets, refl, one.does, one.gave) (takes_ran g s none then most xs (b ++ x) mid new more))
 
 pub turns_ran : {O S : Type 0} (g : Ghosts O) (s : StoreGhosts S) → TakesNone g → TakesThen g → (most : ℕ)
     (b a : List (SentItem Item)) (old new : Stand O S) → RanInTurns g s most b old a new →
-    Ran g b old.kept old.out a new.kept new.out
+    Ran g b old.owned old.out a new.owned new.out
 turns_ran g s none then most b a old new (turns, e, took) =
-    subst (λ w. Ran g b old.kept old.out w new.kept new.out) (sym e)
+    subst (λ w. Ran g b old.owned old.out w new.owned new.out) (sym e)
     (takes_ran g s none then most turns b old new took)
 
 same_end : {O S : Type 0} (g : Ghosts O) (b a : List (SentItem Item)) (old end new : Stand O S) (ended : Bool) →
-    Ran g b old.kept old.out a end.kept end.out →
-    (TookStop b a × (end ≡ new)) ⊎ ((ended ≡ true) × IsStopped end new) → Ran g b old.kept old.out a new.kept new.out
+    Ran g b old.owned old.out a end.owned end.out →
+    (TookStop b a × (end ≡ new)) ⊎ ((ended ≡ true) × IsStopped end new) → Ran g b old.owned old.out a new.owned new.out
 same_end g b a old end new ended ran (inl (stop, e)) =
-    subst (λ (w : Stand _ _). Ran g b old.kept old.out a w.kept w.out) e ran
+    subst (λ (w : Stand _ _). Ran g b old.owned old.out a w.owned w.out) e ran
 same_end g b a old end new ended ran (inr (is, stopped)) =
-    subst (λ (w : KeptValue). Ran g b old.kept old.out a w new.out) (sym stopped.kept)
-    (subst (λ w. Ran g b old.kept old.out a end.kept w) (sym stopped.out) ran)
+    subst (λ (w : OwnedValue). Ran g b old.owned old.out a w new.out) (sym stopped.owned)
+    (subst (λ w. Ran g b old.owned old.out a end.owned w) (sym stopped.out) ran)
 
 pub end_ran : {O S : Type 0} (g : Ghosts O) (s : StoreGhosts S) → TakesNone g → TakesThen g → (most : ℕ)
     (b a : List (SentItem Item)) (old new : Stand O S) (ended : Bool) → RanToEnd g s most b old a new ended →
-    Ran g b old.kept old.out a new.kept new.out
+    Ran g b old.owned old.out a new.owned new.out
 end_ran g s none then most b a old new ended (end, ran, how) =
     same_end g b a old end new ended (turns_ran g s none then most b a old end ran) how
 
@@ -156,20 +156,20 @@ abbrev KeepsFurther : {S : Type 0} → StoreGhosts S → Type 0
 KeepsFurther {S} s = (a b c : S) → s.keeps a b → s.keeps b c → s.keeps a c
 
 -- a keeper that stands where another does
-pub stand_same : {O S : Type 0} (k l : KeptValue) (v w : List SessionValue) (t u : S) (p q : List Entry) (a b : Bool)
+pub stand_same : {O S : Type 0} (k l : OwnedValue) (v w : List SessionValue) (t u : S) (p q : List Entry) (a b : Bool)
     (o : O) → l ≡ k → w ≡ v → u ≡ t → q ≡ p → b ≡ a → stand l w u q b o ≡ stand k v t p a o
 stand_same k l v w t u p q a b o e f h i j =
-    ap (λ (x : KeptValue). stand x w u q b o) e
+    ap (λ (x : OwnedValue). stand x w u q b o) e
     ∙ ap (λ x. stand k x u q b o) f
     ∙ ap (λ x. stand k v x q b o) h
     ∙ ap (λ x. stand k v t x b o) i
     ∙ ap (λ x. stand k v t p x o) j
 
 -- sessions that were told of a stop, begun where another keeper stands
-pub told_same : (p q : List Entry) (turn : List Item) (v w new : List SessionValue) → q ≡ p → w ≡ v →
+pub reported_same : (p q : List Entry) (turn : List Item) (v w new : List SessionValue) → q ≡ p → w ≡ v →
     TellsOfStop q turn w new → TellsOfStop p turn v new
-told_same p q turn v w new e f told =
-    subst (λ l. TellsOfStop p turn l new) f (subst (λ (l : List Entry). TellsOfStop l turn w new) e told)
+reported_same p q turn v w new e f reported =
+    subst (λ l. TellsOfStop p turn l new) f (subst (λ (l : List Entry). TellsOfStop l turn w new) e reported)
 
 -- so much is one turn
 pub some_few : {A : Type 0} (x : A) (more : List A) (most : ℕ) → length more < most →
@@ -184,27 +184,29 @@ pub took_last : {O S : Type 0} (s : StoreGhosts S) (most : ℕ) (fault : Refusal
     × TellsOfStop mid.published (x.item ∷ items_in more) mid.waiting new.waiting
     × DoesUnsaved s (x.item ∷ items_in more) mid new →
     fault ≡ refusals.StoreFault → TakesLast s most fault b old a new
-took_last s most fault b m a x old mid new taken same (more, few, early, then, out, still, told, unsaved) is = record {
-  turn = x ∷ more;
-  taken_is = then ∙ ap (λ w. w ++ more) taken ∙ append_assoc b (x ∷ []) more;
-  some = (some_few x more most few).0;
-  few = (some_few x more most few).1;
-  early = early;
-  silent = out ∙ ap (λ (w : Stand _ _). w.out) same;
-  unpublished = still ∙ ap (λ (w : Stand _ _). w.published) same;
-  told = subst (λ (w : Stand _ _). TellsOfStop w.published (x.item ∷ items_in more) w.waiting new.waiting) same told;
-  unsaved = record {
-    made = λ _. subst (λ (w : Stand _ _). DoesUnsaved s (x.item ∷ items_in more) w new) same unsaved;
-    unchanged = λ later. absurd (let none : ⊥ = cc in none);
-  };
-}
+took_last s most fault b m a x old mid new taken same (more, few, early, then, out, still, reported, unsaved) is =
+    record {
+      turn = x ∷ more;
+      taken_is = then ∙ ap (λ w. w ++ more) taken ∙ append_assoc b (x ∷ []) more;
+      some = (some_few x more most few).0;
+      few = (some_few x more most few).1;
+      early = early;
+      silent = out ∙ ap (λ (w : Stand _ _). w.out) same;
+      unpublished = still ∙ ap (λ (w : Stand _ _). w.published) same;
+      reported = subst (λ (w : Stand _ _). TellsOfStop w.published (x.item ∷ items_in more) w.waiting new.waiting) same
+          reported;
+      unsaved = record {
+        made = λ _. subst (λ (w : Stand _ _). DoesUnsaved s (x.item ∷ items_in more) w new) same unsaved;
+        unchanged = λ later. absurd (let none : ⊥ = cc in none);
+      };
+    }
 
 -- one item was taken by a keeper that had stopped
 pub refused_last : {O S : Type 0} (s : StoreGhosts S) (most : ℕ) (b a : List (SentItem Item)) (x : SentItem Item)
-    (old new : Stand O S) → 0 < most → a ≡ b ++ x ∷ [] → new.kept ≡ old.kept → new.store ≡ old.store →
+    (old new : Stand O S) → 0 < most → a ≡ b ++ x ∷ [] → new.owned ≡ old.owned → new.store ≡ old.store →
     new.out ≡ old.out → new.published ≡ old.published →
     TellsOfStop old.published (x.item ∷ []) old.waiting new.waiting → TakesLast s most refusals.NodeStopped b old a new
-refused_last s most b a x old new some taken kept store silent still told = record {
+refused_last s most b a x old new some taken owned store silent still reported = record {
   turn = x ∷ [];
   taken_is = taken;
   some = (some_few x [] most some).0;
@@ -212,8 +214,8 @@ refused_last s most b a x old new some taken kept store silent still told = reco
   early = last_alone x.item;
   silent = silent;
   unpublished = still;
-  told = told;
-  unsaved = record { made = λ first. absurd (let none : ⊥ = cc in none); unchanged = λ _. (kept, store) };
+  reported = reported;
+  unsaved = record { made = λ first. absurd (let none : ⊥ = cc in none); unchanged = λ _. (owned, store) };
 }
 
 -- what the store is to keep stood through all turns
@@ -223,7 +225,7 @@ takes_keep : {O S : Type 0} (g : Ghosts O) (s : StoreGhosts S) → KeepsStill s 
 takes_keep g s still further most [] old new e =
     subst (λ (w : Stand _ _). s.keeps old.store w.store) e (still old.store)
 takes_keep g s still further most (x ∷ xs) old new (mid, one, more) =
-    further old.store mid.store new.store one.filed.kept (takes_keep g s still further most xs mid new more)
+    further old.store mid.store new.store one.filed.keeps (takes_keep g s still further most xs mid new more)
 
 -- a list of one
 one_only : (xs : List (SentItem Item)) → 0 < length xs → length xs ≤ 1 → (x : SentItem Item) × (xs ≡ x ∷ [])
@@ -241,7 +243,7 @@ turn_to_last g s none then still further fault b a old new (before, end, ran, la
       one.0,
       end,
       last.taken_is ∙ ap (λ w. before ++ w) one.1,
-      subst (λ w. Ran g b old.kept old.out before end.kept w) (sym last.silent)
+      subst (λ w. Ran g b old.owned old.out before end.owned w) (sym last.silent)
           (turns_ran g s none then 1 b before old end ran),
       takes_keep g s still further 1 ran.0 old end ran.2,
       subst (λ w. IsUnsaved s fault (items_in w) end new) one.1 last.unsaved,

@@ -7,7 +7,7 @@ pub mod EndingItems
 pub mod TurnSteps
 pub mod TurnTelling
 pub mod TurnEnds
-pub mod ToldAnswers
+pub mod ReportedAnswers
 pub mod IdleSessions
 pub mod Items
 pub mod SessionLoops

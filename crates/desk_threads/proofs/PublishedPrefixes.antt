@@ -33,10 +33,10 @@ nothing_front front list is = subst (λ (f : List Entry). EqualsPrefix f list) (
 
 -- what a test says, where it is true, and where it is false
 pub where_true : (b : Bool) (A B : Type 0) → MatchBool b A B → b ≡ true → A
-where_true b A B told is = subst (λ (x : Bool). MatchBool x A B) is told
+where_true b A B reported is = subst (λ (x : Bool). MatchBool x A B) is reported
 
 pub where_false : (b : Bool) (A B : Type 0) → MatchBool b A B → b ≡ false → B
-where_false b A B told is = subst (λ (x : Bool). MatchBool x A B) is told
+where_false b A B reported is = subst (λ (x : Bool). MatchBool x A B) is reported
 
 -- and both of it
 pub where_either : (b : Bool) (A B : Type 0) → (b ≡ true → A) → (b ≡ false → B) → MatchBool b A B

@@ -11,7 +11,7 @@ use Rattle.desk_mailbox.specs.declared.rule.SentItem.{SentItem}
 use Rattle.desk_node.specs.declared.step.Step.{Step}
 use Rattle.desk_log.specs.declared.state_store.StateStore.{Ghosts as StoreGhosts}
 use Rattle.desk_threads.specs.declared.handing.Out.{Ghosts}
-use Rattle.desk_threads.specs.KeptValue.{KeptValue, DoesItems}
+use Rattle.desk_threads.specs.OwnedValue.{OwnedValue, DoesItems}
 use Rattle.desk_threads.specs.Waiting.{SessionValue, HearsAll, Tells, after_stop}
 use Rattle.desk_threads.specs.EndingItems.{OnlyLastEnds}
 use Rattle.desk_threads.specs.Filed.{IsFiled, IsUnfiled}
@@ -29,29 +29,30 @@ fewer : (n m most : ℕ) → n ≡ m → m < most → n < most
 fewer n m most e less = omega (arith, e, less)
 
 -- the sessions of a turn, whose answers are those of its steps
-told_by : (list : List Entry) (xs ys : List Outcome) (noted new : List SessionValue) (late : Option Item) → xs ≡ ys →
+reported_by : (list : List Entry) (xs ys : List Outcome) (noted new : List SessionValue) (late : Option Item) →
+    xs ≡ ys →
     (heard : List SessionValue) × AllZip (HearsAll xs) noted heard × TellsRoundLate list late heard new →
     (heard : List SessionValue) × AllZip (HearsAll ys) noted heard × TellsRoundLate list late heard new
-told_by list xs ys noted new late e (heard, a, b) = (heard, subst (λ w. AllZip (HearsAll w) noted heard) e a, b)
+reported_by list xs ys noted new late e (heard, a, b) = (heard, subst (λ w. AllZip (HearsAll w) noted heard) e a, b)
 
 -- a turn that was saved
 pub saved_turn : {O S : Type 0} (g : Ghosts O) (s : StoreGhosts S) (most : ℕ) (item : Item)
     (sent : List (SentItem Item)) (first last : List Step) (old new : Stand O S) (noted : List SessionValue)
     (late : Option Item) → length sent < most → OnlyLastEnds (item ∷ items_in sent) → first ≡ [] →
-    DidMore old.kept first (item ∷ items_in sent) new.kept last →
-    NotesItems (item ∷ items_in sent) old.waiting noted late → IsFiled s old.store new.store new.kept.node.saved →
+    DidMore old.owned first (item ∷ items_in sent) new.owned last →
+    NotesItems (item ∷ items_in sent) old.waiting noted late → IsFiled s old.store new.store new.owned.node.saved →
     g.takes old.out (packets_of_steps last) new.out → IsPrefix old.published new.published →
-    IsPrefix new.published (committed_entries new.kept.node.saved) →
-    MatchBool new.all_published (new.published ≡ committed_entries new.kept.node.saved)
-    (new.published ≢ committed_entries new.kept.node.saved) →
+    IsPrefix new.published (committed_entries new.owned.node.saved) →
+    MatchBool new.all_published (new.published ≡ committed_entries new.owned.node.saved)
+    (new.published ≢ committed_entries new.owned.node.saved) →
     (heard : List SessionValue) × AllZip (HearsAll (answers_of_steps last)) noted heard
     × TellsRoundLate new.published late heard new.waiting →
     TakesTurn g s most (item ∷ items_in sent) old new
 saved_turn g s most item sent first last old new noted late few early none (p, b, e, i, does, answered) notes filed gave
-    grows shown whole told =
+    grows shown whole reported =
     let size = some_few item (items_in sent) most (fewer _ _ most (items_few sent) few) in
-    let heard = told_by new.published (answers_of_steps last) b noted new.waiting late
-    (i ∙ ap (λ w. answers_of_steps w ++ b) none) told in
+    let heard = reported_by new.published (answers_of_steps last) b noted new.waiting late
+    (i ∙ ap (λ w. answers_of_steps w ++ b) none) reported in
     record {
       some = size.0;
       few = size.1;
@@ -65,26 +66,26 @@ saved_turn g s most item sent first last old new noted late few early none (p, b
       whole = whole;
       answers = b;
       answered = answered;
-      told = (noted, late, heard.0, notes, heard.1, heard.2);
+      reported = (noted, late, heard.0, notes, heard.1, heard.2);
     }
 
 -- and the sessions of one that was not saved
 pub unsaved_turn : (list : List Entry) (turn : List Item) (old noted new : List SessionValue) (late : Option Item) →
     NotesItems turn old noted late →
     AllZip (Tells list) (map after_stop (after_items (option_to_list late) noted)) new → TellsOfStop list turn old new
-unsaved_turn list turn old noted new late notes told =
-    subst (λ w. AllZip (Tells list) (map after_stop w) new) (notes_all turn old noted late notes) told
+unsaved_turn list turn old noted new late notes reported =
+    subst (λ w. AllZip (Tells list) (map after_stop w) new) (notes_all turn old noted late notes) reported
 
 -- the items of a turn that was not saved
 pub unsaved_items : {O S : Type 0} (s : StoreGhosts S) (turn : List Item) (first last : List Step)
-    (old new : Stand O S) (from made : KeptValue) (store : S) → from ≡ old.kept → new.kept ≡ made →
+    (old new : Stand O S) (from made : OwnedValue) (store : S) → from ≡ old.owned → new.owned ≡ made →
     new.store ≡ store → DidMore from first turn made last →
     IsUnfiled s old.store store from.node.saved made.node.saved → DoesUnsaved s turn old new
 unsaved_items s turn first last old new from made store from_is made_is store_is (p, b, e, i, does, answered) left = (
   p,
-  subst (λ (k : KeptValue). DoesItems k turn p new.kept) from_is
-      (subst (λ (k : KeptValue). DoesItems from turn p k) (sym made_is) does),
-  subst (λ (k : KeptValue). IsUnfiled s old.store new.store k.node.saved new.kept.node.saved) from_is
-      (subst (λ (k : KeptValue). IsUnfiled s old.store new.store from.node.saved k.node.saved) (sym made_is)
+  subst (λ (k : OwnedValue). DoesItems k turn p new.owned) from_is
+      (subst (λ (k : OwnedValue). DoesItems from turn p k) (sym made_is) does),
+  subst (λ (k : OwnedValue). IsUnfiled s old.store new.store k.node.saved new.owned.node.saved) from_is
+      (subst (λ (k : OwnedValue). IsUnfiled s old.store new.store from.node.saved k.node.saved) (sym made_is)
       (subst (λ w. IsUnfiled s old.store w from.node.saved made.node.saved) (sym store_is) left)),
 )

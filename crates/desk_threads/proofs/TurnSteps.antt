@@ -9,7 +9,7 @@ use Rattle.desk_mailbox.specs.declared.item.Item.{Item}
 use Rattle.desk_mailbox.specs.declared.rule.SentItem.{SentItem}
 use Rattle.desk_node.specs.declared.step.Step.{Step}
 use Rattle.desk_node.specs.NodeValue.{IsSameNode}
-use Rattle.desk_threads.specs.KeptValue.{KeptValue, DoesItem, with_one_refused}
+use Rattle.desk_threads.specs.OwnedValue.{OwnedValue, DoesItem, with_one_refused}
 use Rattle.desk_threads.specs.Waiting.{SessionValue, HearsAll}
 use Rattle.desk_threads.proofs.ItemsInOrder.{keeps_none, keeps_one, keeps_refused, keeps_then}
 use Rattle.desk_threads.specs.Turns.{packets_of_steps, answers_of_steps, DidMore, TookMore, NotesMore}
@@ -51,10 +51,10 @@ gave_push g more old mid new xs s packets e a b =
     subst (λ t. g.takes old t new) (ap (λ q. packets_of_steps xs ++ q) e ∙ sym (packets_push xs s))
     (more old mid new (packets_of_steps xs) packets a b)
 
-answers_then : (k m new : KeptValue) (xs ys : List Item) (b c : List Outcome) → AnswersItems k xs b m →
+answers_then : (k m new : OwnedValue) (xs ys : List Item) (b c : List Outcome) → AnswersItems k xs b m →
     AnswersItems m ys c new → AnswersItems k (xs ++ ys) (b ++ c) new
 answers_then k m new [] ys b c (e, f) h =
-    subst (λ w. AnswersItems k ys (w ++ c) new) (sym e) (subst (λ (x : KeptValue). AnswersItems x ys c new) f h)
+    subst (λ w. AnswersItems k ys (w ++ c) new) (sym e) (subst (λ (x : OwnedValue). AnswersItems x ys c new) f h)
 answers_then k m new (x ∷ xs) ys b c (mid, first, rest, e, one, more) h = (
   mid,
   first,
@@ -64,7 +64,7 @@ answers_then k m new (x ∷ xs) ys b c (mid, first, rest, e, one, more) h = (
   answers_then mid m new xs ys rest c more h,
 )
 
-pub did_none : (k : KeptValue) (steps : List Step) → DidMore k steps [] k steps
+pub did_none : (k : OwnedValue) (steps : List Step) → DidMore k steps [] k steps
 did_none k steps = (
   [],
   [],
@@ -74,7 +74,7 @@ did_none k steps = (
   (refl, refl),
 )
 
-pub did_then : (k m new : KeptValue) (steps mid after : List Step) (xs ys : List Item) → DidMore k steps xs m mid →
+pub did_then : (k m new : OwnedValue) (steps mid after : List Step) (xs ys : List Item) → DidMore k steps xs m mid →
     DidMore m mid ys new after → DidMore k steps (xs ++ ys) new after
 did_then k m new steps mid after xs ys (p, b, e, i, a, n) (q, c, f, j, h, o) = (
   p ++ q,
@@ -86,7 +86,7 @@ did_then k m new steps mid after xs ys (p, b, e, i, a, n) (q, c, f, j, h, o) = (
 )
 
 -- one item was done
-pub did_one : (k new : KeptValue) (steps after : List Step) (step : Step) (item : Item) → after ≡ steps ++ step ∷ [] →
+pub did_one : (k new : OwnedValue) (steps after : List Step) (step : Step) (item : Item) → after ≡ steps ++ step ∷ [] →
     DoesItem k item step.packets.items new → Answers k item step.answers.items → IsSameNode k.node new.node →
     DidMore k steps (item ∷ []) new after
 did_one k new steps after step item is does answers same = (
@@ -106,7 +106,7 @@ did_one k new steps after step item is does answers same = (
 )
 
 -- one item was refused
-pub did_refused : (k new : KeptValue) (steps after : List Step) (item : Item) → after ≡ steps →
+pub did_refused : (k new : OwnedValue) (steps after : List Step) (item : Item) → after ≡ steps →
     new ≡ with_one_refused k → DidMore k steps (item ∷ []) new after
 did_refused k new steps after item is refused = (
   [],
@@ -117,11 +117,11 @@ did_refused k new steps after item is refused = (
   (new, [], [], refl, inr (refl, refused), (refl, refl)),
 )
 
-pub took_none : (taken : List (SentItem Item)) (k : KeptValue) (steps : List Step) →
+pub took_none : (taken : List (SentItem Item)) (k : OwnedValue) (steps : List Step) →
     TookMore taken k steps [] taken k steps
 took_none taken k steps = (sym (append-nil taken), did_none k steps)
 
-pub took_then : (taken between now : List (SentItem Item)) (k m new : KeptValue) (steps mid after : List Step)
+pub took_then : (taken between now : List (SentItem Item)) (k m new : OwnedValue) (steps mid after : List Step)
     (xs ys : List (SentItem Item)) → TookMore taken k steps xs between m mid → TookMore between m mid ys now new after →
     TookMore taken k steps (xs ++ ys) now new after
 took_then taken between now k m new steps mid after xs ys (e, a) (f, b) = (

@@ -9,7 +9,7 @@ use Rattle.desk_log.specs.declared.state_store.StateStore.{Ghosts}
 pub record IsFiled {S : Type 0} (g : Ghosts S) (old new : S) (saved : SavedValue) : Type 0 where
   pub running : g.stopped new ≡ false
   pub last : g.last new ≡ saved
-  pub kept : g.keeps old new
+  pub keeps : g.keeps old new
 
 -- The one state was saved last, and the save of the other failed: the store is what it promises of that.
 pub record IsUnfiled {S : Type 0} (g : Ghosts S) (old new : S) (before saved : SavedValue) : Type 0 where

@@ -10,7 +10,7 @@ use Rattle.desk_node.specs.declared.event.Event.TheVariants as events
 use Rattle.desk_node.specs.Heard.{Says}
 use Rattle.desk_node.specs.Rules.{node_step}
 use Rattle.desk_threads.specs.Keeper.{KeeperState, suspects, tick_event}
-use Rattle.desk_threads.specs.KeptValue.{KeptValue, state_of}
+use Rattle.desk_threads.specs.OwnedValue.{OwnedValue, state_of}
 use Rattle.desk_threads.specs.Waiting.{SessionValue, after_stop, HearsAll, Tells}
 
 -- what the node answers at an item
@@ -22,7 +22,7 @@ item_answers domain i n k items.Tick =
 item_answers domain i n k items.Stop = []
 
 -- These are the node's answers at the item, whichever packets say what the node held.
-abbrev pub Answers : KeptValue → Item → List Outcome → Type 0
+abbrev pub Answers : OwnedValue → Item → List Outcome → Type 0
 Answers old item answers =
     (received : List Message) → Says old.node.n old.node.saved.view received old.node.heard →
     answers ≡ item_answers old.node.domain old.node.id old.node.n (state_of old received) item
@@ -32,10 +32,10 @@ abbrev pub waiting_on : Bool → List SessionValue → List SessionValue
 waiting_on goes_on list = if goes_on then list else map after_stop list
 
 -- The sessions were told what can be told of them, where these entries are published.
-abbrev pub AreTold : List Entry → List SessionValue → List SessionValue → Type 0
-AreTold list old new = AllZip (Tells list) old new
+abbrev pub AreInformed : List Entry → List SessionValue → List SessionValue → Type 0
+AreInformed list old new = AllZip (Tells list) old new
 
 -- The sessions heard these answers, and were then told what can be told of these published entries.
-abbrev pub HearAndAreTold : List Entry → List Outcome → List SessionValue → List SessionValue → Type 0
-HearAndAreTold list answers old new =
-    (mid : List SessionValue) × AllZip (HearsAll answers) old mid × AreTold list mid new
+abbrev pub HearAndAreInformed : List Entry → List Outcome → List SessionValue → List SessionValue → Type 0
+HearAndAreInformed list answers old new =
+    (mid : List SessionValue) × AllZip (HearsAll answers) old mid × AreInformed list mid new

@@ -77,8 +77,8 @@ TakesItem domain i n k item packets new =
     ⊎ ((new ≡ refused_one k) × (packets ≡ []))
 
 -- The items, in order, make the one state of the other, and these packets went out in order.
-abbrev pub kept : List ℕ → ℕ → ℕ → KeeperState → List Item → List (ℕ × Message) → KeeperState → Type 0
-kept domain i n k [] packets new = (new ≡ k) × (packets ≡ [])
-kept domain i n k (item ∷ more) packets new =
+abbrev pub TakesItems : List ℕ → ℕ → ℕ → KeeperState → List Item → List (ℕ × Message) → KeeperState → Type 0
+TakesItems domain i n k [] packets new = (new ≡ k) × (packets ≡ [])
+TakesItems domain i n k (item ∷ more) packets new =
     (mid : KeeperState) × (first : List (ℕ × Message)) × (rest : List (ℕ × Message))
-    × TakesItem domain i n k item first mid × kept domain i n mid more rest new × (packets ≡ first ++ rest)
+    × TakesItem domain i n k item first mid × TakesItems domain i n mid more rest new × (packets ≡ first ++ rest)

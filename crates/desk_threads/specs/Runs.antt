@@ -13,7 +13,7 @@ use Rattle.desk_mailbox.specs.declared.item.Item.TheVariants as items
 use Rattle.desk_mailbox.specs.declared.rule.SentItem.{SentItem}
 use Rattle.desk_log.specs.declared.state_store.StateStore.{Ghosts as StoreGhosts}
 use Rattle.desk_threads.specs.declared.handing.Out.{Ghosts}
-use Rattle.desk_threads.specs.KeptValue.{KeptValue, DoesItems}
+use Rattle.desk_threads.specs.OwnedValue.{OwnedValue, DoesItems}
 use Rattle.desk_threads.specs.Waiting.{SessionValue}
 use Rattle.desk_threads.specs.EndingItems.{OnlyLastEnds}
 use Rattle.desk_threads.specs.Filed.{IsFiled, IsUnfiled}
@@ -37,25 +37,25 @@ HasRunOut taken taken_now no_sender_left = TookStop taken taken_now ⊎ (no_send
 
 -- More was taken; each item made the next state of the one before, or was refused for want of memory; and the packets
 -- of all went out, in order.
-abbrev pub Ran : {O : Type 0} → Ghosts O → List (SentItem Item) → KeptValue → O → List (SentItem Item) → KeptValue →
+abbrev pub Ran : {O : Type 0} → Ghosts O → List (SentItem Item) → OwnedValue → O → List (SentItem Item) → OwnedValue →
     O → Type 0
-Ran g taken kept out taken_now kept_now out_now =
+Ran g taken owned out taken_now owned_now out_now =
     (sent : List (SentItem Item)) × (packets : List (ℕ × Message)) × (taken_now ≡ taken ++ sent)
-    × DoesItems kept (items_in sent) packets kept_now × g.takes out packets out_now
+    × DoesItems owned (items_in sent) packets owned_now × g.takes out packets out_now
 
 -- where a keeper stands between two turns: its node, the sessions that wait, its store, what it has published, whether
 -- it says that this is all that is committed, and what packets are handed to
 pub record Stand (O S : Type 0) : Type 0 where
-  pub kept : KeptValue
+  pub owned : OwnedValue
   pub waiting : List SessionValue
   pub store : S
   pub published : List Entry
   pub all_published : Bool
   pub out : O
 
-abbrev pub stand : {O S : Type 0} → KeptValue → List SessionValue → S → List Entry → Bool → O → Stand O S
-stand kept waiting store published all_published out = record {
-  kept = kept;
+abbrev pub stand : {O S : Type 0} → OwnedValue → List SessionValue → S → List Entry → Bool → O → Stand O S
+stand owned waiting store published all_published out = record {
+  owned = owned;
   waiting = waiting;
   store = store;
   published = published;
@@ -73,16 +73,16 @@ pub record TakesTurn {O S : Type 0} (g : Ghosts O) (s : StoreGhosts S) (most : �
   pub few : length turn ≤ most
   pub early : OnlyLastEnds turn
   pub packets : List (ℕ × Message)
-  pub does : DoesItems old.kept turn packets new.kept
-  pub filed : IsFiled s old.store new.store new.kept.node.saved
+  pub does : DoesItems old.owned turn packets new.owned
+  pub filed : IsFiled s old.store new.store new.owned.node.saved
   pub gave : g.takes old.out packets new.out
   pub grows : IsPrefix old.published new.published
-  pub shown : IsPrefix new.published (committed_entries new.kept.node.saved)
-  pub whole : MatchBool new.all_published (new.published ≡ committed_entries new.kept.node.saved)
-      (new.published ≢ committed_entries new.kept.node.saved)
+  pub shown : IsPrefix new.published (committed_entries new.owned.node.saved)
+  pub whole : MatchBool new.all_published (new.published ≡ committed_entries new.owned.node.saved)
+      (new.published ≢ committed_entries new.owned.node.saved)
   pub answers : List Outcome
-  pub answered : AnswersItems old.kept turn answers new.kept
-  pub told : TellsOfTurn new.published turn answers old.waiting new.waiting
+  pub answered : AnswersItems old.owned turn answers new.owned
+  pub reported : TellsOfTurn new.published turn answers old.waiting new.waiting
 
 -- So do turns, one after the other.
 abbrev pub TakesTurns : {O S : Type 0} → Ghosts O → StoreGhosts S → ℕ → List (List (SentItem Item)) → Stand O S →
@@ -100,12 +100,12 @@ RanInTurns g s most taken old taken_now new =
 
 -- All that wait were told of a stop, and nothing else changed.
 pub record IsStopped {O S : Type 0} (old new : Stand O S) : Type 0 where
-  pub kept : new.kept ≡ old.kept
+  pub owned : new.owned ≡ old.owned
   pub store : new.store ≡ old.store
   pub out : new.out ≡ old.out
   pub published : new.published ≡ old.published
   pub all_published : new.all_published ≡ old.all_published
-  pub told : TellsOfStop old.published (items.Stop ∷ []) old.waiting new.waiting
+  pub reported : TellsOfStop old.published (items.Stop ∷ []) old.waiting new.waiting
 
 -- More was taken, all in such turns. The last of it is a stop, and the last turn left the keeper as it is; or the last
 -- take was told that no sender is left, and then all that waited were told of a stop.
@@ -118,15 +118,15 @@ RanToEnd {O} {S} g s most taken old taken_now new no_sender_left =
 -- The items were done or refused, in order, and the state after the last of them was not saved.
 abbrev pub DoesUnsaved : {O S : Type 0} → StoreGhosts S → List Item → Stand O S → Stand O S → Type 0
 DoesUnsaved s turn old new =
-    (packets : List (ℕ × Message)) × DoesItems old.kept turn packets new.kept
-    × IsUnfiled s old.store new.store old.kept.node.saved new.kept.node.saved
+    (packets : List (ℕ × Message)) × DoesItems old.owned turn packets new.owned
+    × IsUnfiled s old.store new.store old.owned.node.saved new.owned.node.saved
 
 -- The items are those of a last turn that was not saved, by this fault: at 41 they were done or refused before the save
 -- that failed; at 34 the node and the store are as they were.
 pub record IsUnsaved {O S : Type 0} (s : StoreGhosts S) (fault : Refusal) (turn : List Item) (old new : Stand O S)
     : Type 0 where
   pub made : fault ≡ refusals.StoreFault → DoesUnsaved s turn old new
-  pub unchanged : fault ≡ refusals.NodeStopped → (new.kept ≡ old.kept) × (new.store ≡ old.store)
+  pub unchanged : fault ≡ refusals.NodeStopped → (new.owned ≡ old.owned) × (new.store ≡ old.store)
 
 -- A last turn was taken that was not saved: nothing of it went out or was published, no session heard an answer, and
 -- all that waited were refused.
@@ -139,7 +139,7 @@ pub record TakesLast {O S : Type 0} (s : StoreGhosts S) (most : ℕ) (fault : Re
   pub early : OnlyLastEnds (items_in turn)
   pub silent : new.out ≡ old.out
   pub unpublished : new.published ≡ old.published
-  pub told : TellsOfStop old.published (items_in turn) old.waiting new.waiting
+  pub reported : TellsOfStop old.published (items_in turn) old.waiting new.waiting
   pub unsaved : IsUnsaved s fault (items_in turn) old new
 
 -- More was taken, in turns up to such a last one.
@@ -155,5 +155,5 @@ abbrev pub RanToLast : {O S : Type 0} → Ghosts O → StoreGhosts S → Refusal
     List (SentItem Item) → Stand O S → Type 0
 RanToLast {O} {S} g s fault taken old taken_now new =
     (before : List (SentItem Item)) × (last : SentItem Item) × (end : Stand O S)
-    × (taken_now ≡ before ++ last ∷ []) × Ran g taken old.kept old.out before end.kept new.out
+    × (taken_now ≡ before ++ last ∷ []) × Ran g taken old.owned old.out before end.owned new.out
     × s.keeps old.store end.store × IsUnsaved s fault (last.item ∷ []) end new

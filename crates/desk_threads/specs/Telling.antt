@@ -6,21 +6,21 @@ use Rattle.desk_types.specs.declared.outcome.Outcome.{Outcome}
 use Rattle.desk_types.specs.declared.packet.Message.{Message}
 use Rattle.desk_mailbox.specs.declared.item.Item.{Item}
 use Rattle.desk_mailbox.specs.declared.item.Item.TheVariants as items
-use Rattle.desk_threads.specs.KeptValue.{KeptValue, DoesItem, with_one_refused}
+use Rattle.desk_threads.specs.OwnedValue.{OwnedValue, DoesItem, with_one_refused}
 use Rattle.desk_threads.specs.ItemAnswers.{Answers}
 use Rattle.desk_threads.specs.Waiting.{SessionValue, after_item, after_stop, HearsAll, Tells}
 
 -- The item was done, and this is what the node answered; or it was refused, and there is no answer.
-abbrev pub AnswersItem : KeptValue → Item → List Outcome → KeptValue → Type 0
+abbrev pub AnswersItem : OwnedValue → Item → List Outcome → OwnedValue → Type 0
 AnswersItem old item answers new =
     ((packets : List (ℕ × Message)) × DoesItem old item packets new × Answers old item answers)
     ⊎ ((answers ≡ []) × (new ≡ with_one_refused old))
 
 -- So it is with items one after the other, and these are all answers, in order.
-abbrev pub AnswersItems : KeptValue → List Item → List Outcome → KeptValue → Type 0
+abbrev pub AnswersItems : OwnedValue → List Item → List Outcome → OwnedValue → Type 0
 AnswersItems old [] answers new = (answers ≡ []) × (new ≡ old)
 AnswersItems old (item ∷ more) answers new =
-    (mid : KeptValue) × (first : List Outcome) × (rest : List Outcome) × (answers ≡ first ++ rest)
+    (mid : OwnedValue) × (first : List Outcome) × (rest : List Outcome) × (answers ≡ first ++ rest)
     × AnswersItem old item first mid × AnswersItems mid more rest new
 
 -- what items make of the sessions, one after the other
@@ -44,8 +44,8 @@ NotesItems turn old new late =
 -- these published entries.
 abbrev pub TellsRoundLate : List Entry → Option Item → List SessionValue → List SessionValue → Type 0
 TellsRoundLate list late heard new =
-    (told : List SessionValue) × AllZip (Tells list) heard told
-    × AllZip (Tells list) (after_items (option_to_list late) told) new
+    (reported : List SessionValue) × AllZip (Tells list) heard reported
+    × AllZip (Tells list) (after_items (option_to_list late) reported) new
 
 -- The sessions of a turn that was saved: they heard of its items, then these answers, and were told what can be told of
 -- these published entries; then so of the late item.

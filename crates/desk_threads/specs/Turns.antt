@@ -5,7 +5,7 @@ use Rattle.desk_types.specs.declared.packet.Message.{Message}
 use Rattle.desk_mailbox.specs.declared.item.Item.{Item}
 use Rattle.desk_mailbox.specs.declared.rule.SentItem.{SentItem}
 use Rattle.desk_node.specs.declared.step.Step.{Step}
-use Rattle.desk_threads.specs.KeptValue.{KeptValue, DoesItems}
+use Rattle.desk_threads.specs.OwnedValue.{OwnedValue, DoesItems}
 use Rattle.desk_threads.specs.Waiting.{SessionValue}
 use Rattle.desk_threads.specs.EndingItems.{NoneEnds, OnlyLastEnds}
 use Rattle.desk_threads.specs.Runs.{items_in}
@@ -22,18 +22,18 @@ answers_of_steps [] = []
 answers_of_steps (s ∷ more) = s.answers.items ++ answers_of_steps more
 
 -- The items were done or refused, in order, and the steps that they made stand after those before.
-abbrev pub DidMore : KeptValue → List Step → List Item → KeptValue → List Step → Type 0
-DidMore kept steps list kept_now steps_now =
+abbrev pub DidMore : OwnedValue → List Step → List Item → OwnedValue → List Step → Type 0
+DidMore owned steps list owned_now steps_now =
     (packets : List (ℕ × Message)) × (answers : List Outcome)
     × (packets_of_steps steps_now ≡ packets_of_steps steps ++ packets)
     × (answers_of_steps steps_now ≡ answers_of_steps steps ++ answers)
-    × DoesItems kept list packets kept_now × AnswersItems kept list answers kept_now
+    × DoesItems owned list packets owned_now × AnswersItems owned list answers owned_now
 
 -- So it is with items that were taken.
-abbrev pub TookMore : List (SentItem Item) → KeptValue → List Step → List (SentItem Item) → List (SentItem Item) →
-    KeptValue → List Step → Type 0
-TookMore taken kept steps sent taken_now kept_now steps_now =
-    (taken_now ≡ taken ++ sent) × DidMore kept steps (items_in sent) kept_now steps_now
+abbrev pub TookMore : List (SentItem Item) → OwnedValue → List Step → List (SentItem Item) → List (SentItem Item) →
+    OwnedValue → List Step → Type 0
+TookMore taken owned steps sent taken_now owned_now steps_now =
+    (taken_now ≡ taken ++ sent) × DidMore owned steps (items_in sent) owned_now steps_now
 
 -- Whatever items made the sessions what they are, these came after them.
 abbrev pub NotesMore : List (SentItem Item) → List SessionValue → Option Item → List SessionValue → Option Item → Type 0

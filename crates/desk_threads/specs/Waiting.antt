@@ -14,26 +14,26 @@ use Rattle.desk_types.specs.declared.reply.Reply.{Reply}
 use Rattle.desk_types.specs.declared.reply.Reply.TheVariants as replies
 use Rattle.desk_mailbox.specs.declared.item.Item.{Item}
 use Rattle.desk_mailbox.specs.declared.item.Item.TheVariants as items
-use Rattle.desk_published.specs.Told.{is_request_at}
-use Rattle.desk_published.specs.declared.told.ToldWord.{ToldWord}
-use Rattle.desk_published.specs.declared.told.ToldWord.TheVariants as words
+use Rattle.desk_published.specs.Reported.{is_request_at}
+use Rattle.desk_published.specs.declared.reported.ReportedWord.{ReportedWord}
+use Rattle.desk_published.specs.declared.reported.ReportedWord.TheVariants as words
 use Rattle.desk_threads.specs.declared.awaits.Awaited.{Awaited}
 use Rattle.desk_threads.specs.declared.awaits.Awaited.TheVariants as awaits
 use Rattle.desk_threads.specs.declared.limits.TheConstants.{WAITING_TICKS}
 use Rattle.desk_threads.specs.Keeper.{one_more}
 
 -- a word to the client of a request, with what was published when it was made
-pub record ToldValue : Type 0 where
+pub record ReportedValue : Type 0 where
   pub published : List Entry
   pub client : ℕ
   pub number : ℕ
-  pub word : ToldWord
+  pub word : ReportedWord
 
 -- what a session waits for; a word for which its channel had no room; the client and the number of its last request;
 -- and the ticks since that
 pub record SessionValue : Type 0 where
   pub awaits : Awaited
-  pub unsent : Option ToldValue
+  pub unsent : Option ReportedValue
   pub asked : Option (ℕ × ℕ)
   pub ticks : ℕ
 
@@ -132,11 +132,11 @@ abbrev pub HearsAll : List Outcome → SessionValue → SessionValue → Type 0
 HearsAll answers old new = FoldsTo (λ s answer t. Hears answer s t) old answers new
 
 -- what is told of a request, where these entries are published
-abbrev pub said : List Entry → ℕ → ℕ → ToldWord → ToldValue
+abbrev pub said : List Entry → ℕ → ℕ → ReportedWord → ReportedValue
 said list client number word = record { published = list; client = client; number = number; word = word }
 
 -- what can be told of a request: that it is published, only where it stands at its place
-abbrev pub word_on : List Entry → ℕ → ℕ → Awaited → Option ToldValue
+abbrev pub word_on : List Entry → ℕ → ℕ → Awaited → Option ReportedValue
 word_on list client number (awaits.Publish place) =
     if is_request_at list client number place then Some (said list client number (words.Published (length list)))
     else None
@@ -145,12 +145,12 @@ word_on list client number awaits.Commit = None
 word_on list client number awaits.Nothing = None
 
 -- what can be told of the request that was made last
-abbrev pub word_asked : List Entry → Option (ℕ × ℕ) → Awaited → Option ToldValue
+abbrev pub word_asked : List Entry → Option (ℕ × ℕ) → Awaited → Option ReportedValue
 word_asked list None waits = None
 word_asked list (Some request) waits = word_on list request.0 request.1 waits
 
 -- what a session can be told now: first the word for which there was no room
-abbrev pub word_to_tell : List Entry → SessionValue → Option ToldValue
+abbrev pub word_to_tell : List Entry → SessionValue → Option ReportedValue
 word_to_tell list s = option_or s.unsent (word_asked list s.asked s.awaits)
 
 -- the session after its word went out, or its receiver was gone
@@ -158,19 +158,19 @@ abbrev pub after_word : SessionValue → SessionValue
 after_word s = record { awaits = awaits.Nothing; unsent = None; asked = s.asked; ticks = s.ticks }
 
 -- the session, with a word for which there was no room
-abbrev pub with_unsent : ToldValue → SessionValue → SessionValue
-with_unsent told s = record { awaits = s.awaits; unsent = Some told; asked = s.asked; ticks = s.ticks }
+abbrev pub with_unsent : ReportedValue → SessionValue → SessionValue
+with_unsent reported s = record { awaits = s.awaits; unsent = Some reported; asked = s.asked; ticks = s.ticks }
 
 -- what a send to its channel makes of the session: the word is kept where the channel had no room for it, and not where
 -- it went out or its receiver was gone
-abbrev pub after_send : {T U : Type 0} → Result U (TrySendError T) → (T → ToldValue) → SessionValue → SessionValue
+abbrev pub after_send : {T U : Type 0} → Result U (TrySendError T) → (T → ReportedValue) → SessionValue → SessionValue
 after_send (Ok sent) value s = s
-after_send (Err (sends.Disconnected told)) value s = s
-after_send (Err (sends.Full told)) value s = with_unsent (value told) s
-after_send (Err (sends.OutOfMemory told)) value s = with_unsent (value told) s
+after_send (Err (sends.Disconnected reported)) value s = s
+after_send (Err (sends.Full reported)) value s = with_unsent (value reported) s
+after_send (Err (sends.OutOfMemory reported)) value s = with_unsent (value reported) s
 
 -- The session was told what it can be told now, or that is left for the next time. Nothing else changes.
 abbrev pub Tells : List Entry → SessionValue → SessionValue → Type 0
 Tells list old new =
     MatchOption (word_to_tell list old) (new ≡ old)
-    (λ told. (new ≡ after_word old) ⊎ (new ≡ with_unsent told (after_word old)))
+    (λ reported. (new ≡ after_word old) ⊎ (new ≡ with_unsent reported (after_word old)))

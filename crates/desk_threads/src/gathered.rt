@@ -10,7 +10,7 @@ ghost use Rattle.desk_published.specs.Reads.{HasFailedOnce};
 ghost use Rattle.desk_published.specs.Writer.{published};
 
 use crate::keeper::Keeper;
-use crate::kept_node::KeptNode;
+use crate::owned_node::OwnedNode;
 use crossbeam_utils::rule::Protocol;
 use desk_log::StateStore;
 use desk_mailbox::{GatheredMailbox, Item, Sender};
@@ -28,7 +28,7 @@ where
     PrefixRule: Protocol<PublishedBoard<B>, SeatView>,
 {
     pub(crate) mailbox: GatheredMailbox<Item>,
-    pub(crate) kept: KeptNode,
+    pub(crate) owned: OwnedNode,
     pub(crate) store: S,
     pub(crate) writer: BoardWriter<B>,
 }
@@ -38,13 +38,13 @@ pub fn gather<B: BoardName, S: StateStore>(keeper: Keeper<B, S>) -> Gathered<B, 
     ensures taker { result.mailbox.taker ≡ keeper.taker }
     ensures taken { taken_at_end result.mailbox ≡ taken_by keeper.taker }
     ensures left { result.mailbox.left.items ≡ [] }
-    ensures kept { result.kept ≡ keeper.kept }
+    ensures owned { result.owned ≡ keeper.owned }
     ensures store { result.store ≡ keeper.store }
     ensures writer { result.writer ≡ keeper.writer }
 {
     let Keeper {
         taker,
-        kept,
+        owned,
         store,
         writer,
         waiting,
@@ -55,7 +55,7 @@ pub fn gather<B: BoardName, S: StateStore>(keeper: Keeper<B, S>) -> Gathered<B, 
     drop(waiting);
     Gathered {
         mailbox: GatheredMailbox::new(alloc, taker),
-        kept,
+        owned,
         store,
         writer,
     }
@@ -64,9 +64,9 @@ pub fn gather<B: BoardName, S: StateStore>(keeper: Keeper<B, S>) -> Gathered<B, 
 impl<B: BoardName, S: StateStore> Gathered<B, S> {
     /// How many items were refused for want of memory.
     pub fn refused(&self) -> u64
-        ensures { result ≡ self.now.kept.refused }
+        ensures { result ≡ self.now.owned.refused }
     {
-        self.kept.refused()
+        self.owned.refused()
     }
 
     /// Takes what is left in the mailbox. After Ok all that this sender put was done or counted as refused, or is
@@ -83,7 +83,7 @@ impl<B: BoardName, S: StateStore> Gathered<B, S> {
         ensures put { put_by result.1 ≡ put_by sender }
         ensures taken { taken_at_end result.0.mailbox ≡ taken_at_end self.mailbox }
         ensures left { (more : _) × (result.0.mailbox.left.items ≡ self.mailbox.left.items ++ more) }
-        ensures kept { result.0.kept ≡ self.kept }
+        ensures owned { result.0.owned ≡ self.owned }
         ensures store { result.0.store ≡ self.store }
         ensures writer { result.0.writer ≡ self.writer }
         ensures gathered { OnOk result.2
@@ -93,14 +93,14 @@ impl<B: BoardName, S: StateStore> Gathered<B, S> {
     {
         let Gathered {
             mailbox,
-            kept,
+            owned,
             store,
             writer,
         } = self;
         let (mailbox, sender, outcome) = mailbox.sender(rt, sender);
         let gathered = Gathered {
             mailbox,
-            kept,
+            owned,
             store,
             writer,
         };
@@ -114,7 +114,7 @@ impl<B: BoardName, S: StateStore> Gathered<B, S> {
     /// than is published, or where the read gave no answer.
     pub fn reader(self, reader: BoardReader<B>) -> (Gathered<B, S>, BoardReader<B>, bool)
         ensures mailbox { result.0.mailbox ≡ self.mailbox }
-        ensures kept { result.0.kept ≡ self.kept }
+        ensures owned { result.0.owned ≡ self.owned }
         ensures store { result.0.store ≡ self.store }
         ensures writer { result.0.writer ≡ self.writer }
         ensures pass { IsPrefix reader.pass result.1.pass }
@@ -129,18 +129,18 @@ impl<B: BoardName, S: StateStore> Gathered<B, S> {
     }
 
     /// Ends the board, and gives back the node and the store. It waits for readers that are in the board.
-    pub fn end<R: Wait>(self, rt: &R) -> (KeptNode, S)
-        ensures kept { result.0 ≡ self.kept }
+    pub fn end<R: Wait>(self, rt: &R) -> (OwnedNode, S)
+        ensures owned { result.0 ≡ self.owned }
         ensures store { result.1 ≡ self.store }
     {
         let Gathered {
             mailbox,
-            kept,
+            owned,
             store,
             writer,
         } = self;
         drop(mailbox);
         writer.end(rt);
-        (kept, store)
+        (owned, store)
     }
 }

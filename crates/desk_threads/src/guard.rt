@@ -25,9 +25,9 @@ where
 
 // Ends a keeper, and lets go what it gives back.
 fn end_keeper<B: BoardName, S: StateStore + Drop, R: Wait>(rt: &R, keeper: Keeper<B, S>) {
-    let (taker, kept, store) = keeper.end(rt);
+    let (taker, owned, store) = keeper.end(rt);
     drop(taker);
-    drop(kept);
+    drop(owned);
     drop(store);
 }
 

@@ -5,8 +5,8 @@ ghost use mathlib.Core.List.{IsPrefix};
 ghost use Rattle.desk_types.specs.declared.refusal.Refusal.TheVariants as refusals;
 ghost use Rattle.desk_log.specs.SavedValue.{committed_entries};
 ghost use Rattle.desk_node.specs.NodeValue.{IsSameNode};
-ghost use Rattle.desk_threads.specs.KeptValue.{with_one_refused, DoesItem};
-ghost use Rattle.desk_threads.specs.ItemAnswers.{Answers, HearAndAreTold, AreTold, waiting_on};
+ghost use Rattle.desk_threads.specs.OwnedValue.{with_one_refused, DoesItem};
+ghost use Rattle.desk_threads.specs.ItemAnswers.{Answers, HearAndAreInformed, AreInformed, waiting_on};
 ghost use Rattle.desk_threads.specs.Waiting.{after_item};
 ghost use Rattle.desk_published.specs.Writer.{published};
 ghost use Rattle.desk_types.specs.Refusal.{IsStoreRefusal};
@@ -54,45 +54,45 @@ impl<B: BoardName, S: StateStore> Keeper<B, S> {
     ) -> (Keeper<B, S>, Result<bool, Refusal>)
         requires { self.stopped ≡ false }
         ensures taker { result.0.taker ≡ self.taker }
-        ensures did { IfOk result.1 (λ whole. (packets : List _) × DoesItem self.kept item packets result.0.kept
+        ensures did { IfOk result.1 (λ whole. (packets : List _) × DoesItem self.owned item packets result.0.owned
             × O.Out.takes out.old packets out.new) }
         // Who waits hears what the node answered, and is told what can be told of what is published then.
-        ensures told { IfOk result.1 (λ whole. (answers : List _) × Answers self.kept item answers
-            × HearAndAreTold (published result.0.writer.inner) answers (after_item item self.waiting)
+        ensures reported { IfOk result.1 (λ whole. (answers : List _) × Answers self.owned item answers
+            × HearAndAreInformed (published result.0.writer.inner) answers (after_item item self.waiting)
             result.0.waiting) }
         // At 40 the node answered nothing, and they wait on.
-        ensures told_unanswered { IfErr result.1 (λ r. r ≡ refusals.WantOfMemory →
-            AreTold (published result.0.writer.inner) (after_item item self.waiting) result.0.waiting) }
+        ensures reported_unanswered { IfErr result.1 (λ r. r ≡ refusals.WantOfMemory →
+            AreInformed (published result.0.writer.inner) (after_item item self.waiting) result.0.waiting) }
         // At 41 and 34 all that wait are refused by 34.
-        ensures told_stopped { IfErr result.1 (λ r. IsStoreRefusal r →
+        ensures reported_stopped { IfErr result.1 (λ r. IsStoreRefusal r →
             TellsOfStop (published result.0.writer.inner) (item ∷ []) self.waiting result.0.waiting) }
         ensures unpublished { IfErr result.1 (λ r. IsStoreRefusal r →
             published result.0.writer.inner ≡ published self.writer.inner) }
         ensures stops { IfErr result.1 (λ r. IsStoreRefusal r → result.0.stopped ≡ true) }
         ensures first { IfErr result.1 (λ r. (r ≡ refusals.WantOfMemory) ⊎ (r ≡ refusals.StoreFault)) }
         ensures refused { IfErr result.1 (λ r. r ≡ refusals.WantOfMemory →
-            result.0.kept ≡ with_one_refused self.kept) }
+            result.0.owned ≡ with_one_refused self.owned) }
         ensures fault { IfErr result.1 (λ r. (r ≡ refusals.WantOfMemory) ⊎ IsStoreRefusal r) }
         ensures silent { OnErr result.1 (out.new ≡ out.old) }
-        ensures same { IsSameNode self.kept.node result.0.kept.node }
+        ensures same { IsSameNode self.owned.node result.0.owned.node }
         ensures running { HasStored result.1 → result.0.stopped ≡ false }
-        ensures filed { HasStored result.1 → IsFiled S.StateStore self.store result.0.store result.0.kept.node.saved }
+        ensures filed { HasStored result.1 → IsFiled S.StateStore self.store result.0.store result.0.owned.node.saved }
         // At 41 the node is what the item made of it, and the save of that failed.
         ensures made { IfErr result.1 (λ r. r ≡ refusals.StoreFault →
-            (packets : List _) × DoesItem self.kept item packets result.0.kept) }
+            (packets : List _) × DoesItem self.owned item packets result.0.owned) }
         ensures left { IfErr result.1 (λ r. r ≡ refusals.StoreFault → IsUnfiled S.StateStore self.store
-            result.0.store self.kept.node.saved result.0.kept.node.saved) }
+            result.0.store self.owned.node.saved result.0.owned.node.saved) }
         ensures shown { IsPrefix (published result.0.writer.inner)
-            (committed_entries result.0.kept.node.saved) }
+            (committed_entries result.0.owned.node.saved) }
         ensures grows { IsPrefix (published self.writer.inner)
             (published result.0.writer.inner) }
         ensures whole { IfOk result.1 (λ whole. MatchBool whole
-            (published result.0.writer.inner ≡ committed_entries result.0.kept.node.saved)
-            (published result.0.writer.inner ≢ committed_entries result.0.kept.node.saved)) }
+            (published result.0.writer.inner ≡ committed_entries result.0.owned.node.saved)
+            (published result.0.writer.inner ≢ committed_entries result.0.owned.node.saved)) }
     {
         let Keeper {
             taker,
-            mut kept,
+            mut owned,
             mut store,
             writer,
             mut waiting,
@@ -101,10 +101,10 @@ impl<B: BoardName, S: StateStore> Keeper<B, S> {
             alloc,
         } = self;
         waiting.note(&item);
-        let outcome = act_and_save(alloc, &mut kept, &mut store, item);
+        let outcome = act_and_save(alloc, &mut owned, &mut store, item);
         let goes_on = goes_on_after(&outcome);
         stop_unless(&mut waiting, goes_on);
-        let (writer, whole) = writer.publish(rt, kept.node().saved(), goes_on);
+        let (writer, whole) = writer.publish(rt, owned.node().saved(), goes_on);
         let answer = match outcome {
             Ok(Step { packets, answers }) => {
                 hand_all(out, packets);
@@ -116,7 +116,7 @@ impl<B: BoardName, S: StateStore> Keeper<B, S> {
         waiting.tell(rt, &writer);
         let keeper = Keeper {
             taker,
-            kept,
+            owned,
             store,
             writer,
             waiting,
@@ -130,17 +130,17 @@ impl<B: BoardName, S: StateStore> Keeper<B, S> {
     // Tells those who wait, and who puts this item, that the keeper stops.
     pub(crate) fn refuse<R: Wait>(self, rt: &R, item: &Item) -> Keeper<B, S>
         ensures taker { result.taker ≡ self.taker }
-        ensures kept { result.kept ≡ self.kept }
+        ensures owned { result.owned ≡ self.owned }
         ensures store { result.store ≡ self.store }
         ensures stopped { result.stopped ≡ self.stopped }
         ensures writer { result.writer ≡ self.writer }
         ensures all_published { result.all_published ≡ self.all_published }
-        ensures told { TellsOfStop (published self.writer.inner) (item.now ∷ []) self.waiting
+        ensures reported { TellsOfStop (published self.writer.inner) (item.now ∷ []) self.waiting
             result.waiting }
     {
         let Keeper {
             taker,
-            kept,
+            owned,
             store,
             writer,
             mut waiting,
@@ -153,7 +153,7 @@ impl<B: BoardName, S: StateStore> Keeper<B, S> {
         waiting.tell(rt, &writer);
         Keeper {
             taker,
-            kept,
+            owned,
             store,
             writer,
             waiting,
@@ -175,17 +175,17 @@ impl<B: BoardName, S: StateStore> Keeper<B, S> {
         out: &mut O,
     ) -> (Keeper<B, S>, Result<bool, Refusal>)
         ensures taker { result.0.taker ≡ self.taker }
-        ensures did { IfOk result.1 (λ whole. (packets : List _) × DoesItem self.kept item packets result.0.kept
+        ensures did { IfOk result.1 (λ whole. (packets : List _) × DoesItem self.owned item packets result.0.owned
             × O.Out.takes out.old packets out.new) }
         // Who waits hears what the node answered, and is told what can be told of what is published then.
-        ensures told { IfOk result.1 (λ whole. (answers : List _) × Answers self.kept item answers
-            × HearAndAreTold (published result.0.writer.inner) answers (after_item item self.waiting)
+        ensures reported { IfOk result.1 (λ whole. (answers : List _) × Answers self.owned item answers
+            × HearAndAreInformed (published result.0.writer.inner) answers (after_item item self.waiting)
             result.0.waiting) }
         // At 40 the node answered nothing, and they wait on.
-        ensures told_unanswered { IfErr result.1 (λ r. r ≡ refusals.WantOfMemory →
-            AreTold (published result.0.writer.inner) (after_item item self.waiting) result.0.waiting) }
+        ensures reported_unanswered { IfErr result.1 (λ r. r ≡ refusals.WantOfMemory →
+            AreInformed (published result.0.writer.inner) (after_item item self.waiting) result.0.waiting) }
         // At 41 and 34 all that wait are refused by 34.
-        ensures told_stopped { IfErr result.1 (λ r. IsStoreRefusal r →
+        ensures reported_stopped { IfErr result.1 (λ r. IsStoreRefusal r →
             TellsOfStop (published result.0.writer.inner) (item ∷ []) self.waiting result.0.waiting) }
         ensures unpublished { IfErr result.1 (λ r. IsStoreRefusal r →
             published result.0.writer.inner ≡ published self.writer.inner) }
@@ -194,26 +194,26 @@ impl<B: BoardName, S: StateStore> Keeper<B, S> {
         ensures first { self.stopped ≡ false →
             IfErr result.1 (λ r. (r ≡ refusals.WantOfMemory) ⊎ (r ≡ refusals.StoreFault)) }
         ensures after { self.stopped ≡ true → (result.1 ≡ Err refusals.NodeStopped)
-            × (result.0.kept ≡ self.kept) × (result.0.store ≡ self.store) }
+            × (result.0.owned ≡ self.owned) × (result.0.store ≡ self.store) }
         ensures refused { IfErr result.1 (λ r. r ≡ refusals.WantOfMemory →
-            result.0.kept ≡ with_one_refused self.kept) }
+            result.0.owned ≡ with_one_refused self.owned) }
         ensures fault { IfErr result.1 (λ r. (r ≡ refusals.WantOfMemory) ⊎ IsStoreRefusal r) }
         ensures silent { OnErr result.1 (out.new ≡ out.old) }
-        ensures same { IsSameNode self.kept.node result.0.kept.node }
+        ensures same { IsSameNode self.owned.node result.0.owned.node }
         ensures running { HasStored result.1 → (self.stopped ≡ false) × (result.0.stopped ≡ false) }
-        ensures filed { HasStored result.1 → IsFiled S.StateStore self.store result.0.store result.0.kept.node.saved }
+        ensures filed { HasStored result.1 → IsFiled S.StateStore self.store result.0.store result.0.owned.node.saved }
         // At 41 the node is what the item made of it, and the save of that failed.
         ensures made { IfErr result.1 (λ r. r ≡ refusals.StoreFault →
-            (packets : List _) × DoesItem self.kept item packets result.0.kept) }
+            (packets : List _) × DoesItem self.owned item packets result.0.owned) }
         ensures left { IfErr result.1 (λ r. r ≡ refusals.StoreFault → IsUnfiled S.StateStore self.store
-            result.0.store self.kept.node.saved result.0.kept.node.saved) }
+            result.0.store self.owned.node.saved result.0.owned.node.saved) }
         ensures shown { IsPrefix (published result.0.writer.inner)
-            (committed_entries result.0.kept.node.saved) }
+            (committed_entries result.0.owned.node.saved) }
         ensures grows { IsPrefix (published self.writer.inner)
             (published result.0.writer.inner) }
         ensures whole { IfOk result.1 (λ whole. MatchBool whole
-            (published result.0.writer.inner ≡ committed_entries result.0.kept.node.saved)
-            (published result.0.writer.inner ≢ committed_entries result.0.kept.node.saved)) }
+            (published result.0.writer.inner ≡ committed_entries result.0.owned.node.saved)
+            (published result.0.writer.inner ≢ committed_entries result.0.owned.node.saved)) }
     {
         if self.stopped {
             let keeper = self.refuse(rt, &item);

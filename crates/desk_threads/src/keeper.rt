@@ -5,7 +5,7 @@ ghost use mathlib.Core.List.{IsPrefix};
 ghost use Rattle.desk_log.specs.SavedValue.{committed_entries};
 ghost use Rattle.desk_published.specs.Writer.{EqualsPrefix, published};
 
-use crate::kept_node::KeptNode;
+use crate::owned_node::OwnedNode;
 use crate::waiting::WaitingSessions;
 use crossbeam_utils::rule::Protocol;
 use desk_log::StateStore;
@@ -25,7 +25,7 @@ where
     PrefixRule: Protocol<PublishedBoard<B>, SeatView>,
 {
     pub(crate) taker: Taker<Item>,
-    pub(crate) kept: KeptNode,
+    pub(crate) owned: OwnedNode,
     pub(crate) store: S,
     pub(crate) writer: BoardWriter<B>,
     pub(crate) waiting: WaitingSessions<B>,
@@ -34,37 +34,37 @@ where
     /// Whether all that its node has committed is published, where the store has not failed.
     pub(crate) all_published: bool,
     pub(crate) alloc: Global,
-    pub ghost behind: { EqualsPrefix writer.noted (committed_entries kept.node.saved) },
-    pub ghost shown: { EqualsPrefix (published writer.inner) (committed_entries kept.node.saved) },
-    pub ghost domain_is: { kept.node.domain ≡ B.domain },
+    pub ghost noted: { EqualsPrefix writer.noted (committed_entries owned.node.saved) },
+    pub ghost shown: { EqualsPrefix (published writer.inner) (committed_entries owned.node.saved) },
+    pub ghost domain_is: { owned.node.domain ≡ B.domain },
     pub ghost running: { stopped ≡ false → S.stopped store ≡ false },
-    pub ghost last: { stopped ≡ false → S.last store ≡ kept.node.saved },
+    pub ghost last: { stopped ≡ false → S.last store ≡ owned.node.saved },
     pub ghost whole: { stopped ≡ false → all_published ≡ true →
-        published writer.inner ≡ committed_entries kept.node.saved },
+        published writer.inner ≡ committed_entries owned.node.saved },
     pub ghost partial: { stopped ≡ false → all_published ≡ false →
-        published writer.inner ≢ committed_entries kept.node.saved },
+        published writer.inner ≢ committed_entries owned.node.saved },
 }
 
 impl<B: BoardName, S: StateStore> Keeper<B, S> {
     /// How many items were refused for want of memory.
     pub fn refused(&self) -> u64
-        ensures { result ≡ self.now.kept.refused }
+        ensures { result ≡ self.now.owned.refused }
     {
-        self.kept.refused()
+        self.owned.refused()
     }
 
     /// Its node, as the items so far left it.
     pub fn node(&self) -> &Node
-        ensures { result.now ≡ self.now.kept.node }
+        ensures { result.now ≡ self.now.owned.node }
     {
-        self.kept.node()
+        self.owned.node()
     }
 
     /// How many entries are published. They are the first of those that the node has committed.
     pub fn published_len(&self) -> u64
         ensures value { result ≡ length (published self.now.writer.inner) }
         ensures shown { IsPrefix (published self.now.writer.inner)
-            (committed_entries self.now.kept.node.saved) }
+            (committed_entries self.now.owned.node.saved) }
     {
         self.writer.published_len()
     }
@@ -72,23 +72,23 @@ impl<B: BoardName, S: StateStore> Keeper<B, S> {
     /// Whether all that the node has committed is published. It says nothing once the store has failed.
     pub fn has_published_all(&self) -> bool
         ensures whole { self.now.stopped ≡ false → result ≡ true →
-            published self.now.writer.inner ≡ committed_entries self.now.kept.node.saved }
+            published self.now.writer.inner ≡ committed_entries self.now.owned.node.saved }
         ensures partial { self.now.stopped ≡ false → result ≡ false →
-            published self.now.writer.inner ≢ committed_entries self.now.kept.node.saved }
+            published self.now.writer.inner ≢ committed_entries self.now.owned.node.saved }
     {
         self.all_published
     }
 
     /// Ends the board, and gives back the taker, the node and the store. From then on no reader can enter the board,
     /// and no session gets an answer. It waits for readers that are in the board.
-    pub fn end<R: Wait>(self, rt: &R) -> (Taker<Item>, KeptNode, S)
+    pub fn end<R: Wait>(self, rt: &R) -> (Taker<Item>, OwnedNode, S)
         ensures taker { result.0 ≡ self.taker }
-        ensures kept { result.1 ≡ self.kept }
+        ensures owned { result.1 ≡ self.owned }
         ensures store { result.2 ≡ self.store }
     {
         let Keeper {
             taker,
-            kept,
+            owned,
             store,
             writer,
             waiting,
@@ -98,6 +98,6 @@ impl<B: BoardName, S: StateStore> Keeper<B, S> {
         } = self;
         drop(waiting);
         writer.end(rt);
-        (taker, kept, store)
+        (taker, owned, store)
     }
 }

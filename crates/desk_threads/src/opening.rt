@@ -11,7 +11,7 @@ ghost use Rattle.desk_mailbox.specs.declared.TheConstants.{MAILBOX_ITEMS};
 ghost use Rattle.desk_node.specs.NodeValue.{node_from};
 
 use crate::keeper::Keeper;
-use crate::kept_node::KeptNode;
+use crate::owned_node::OwnedNode;
 use crate::waiting::WaitingSessions;
 use crossbeam_channel::{Receiver, Sender as WordSender, bounded};
 use crossbeam_utils::rule::Protocol;
@@ -20,7 +20,7 @@ use desk_mailbox::{Item, MAILBOX_ITEMS, Sender, Taker, open_mailbox};
 use desk_node::Node;
 use desk_published::{
     BoardName, BoardReader, BoardWriter, NewHistory, NextEntry, PrefixRule, PublishedBoard,
-    SeatView, Told,
+    Reported, SeatView,
 };
 use desk_types::{Entry, Owner, WantOfMemory};
 use left_right::Absorb;
@@ -48,7 +48,7 @@ pub struct SessionEnds<B: BoardName>
 where
     PrefixRule: Protocol<PublishedBoard<B>, SeatView>,
 {
-    pub words: Receiver<Told<B>>,
+    pub words: Receiver<Reported<B>>,
     pub reader: BoardReader<B>,
 }
 
@@ -61,7 +61,10 @@ fn open_session<B: BoardName>(
     ensures reader { IfOk result (λ ends. ends.reader.pass ≡ published writer.now.inner) }
     ensures waiting { IfOk result (λ _. waiting.new ≡ waiting.old ++ idle ∷ []) }
 {
-    let (to, words): (WordSender<Told<B>>, Receiver<Told<B>>) = bounded(alloc, SESSION_WORDS)?;
+    let (to, words): (WordSender<Reported<B>>, Receiver<Reported<B>>) = bounded(
+        alloc,
+        SESSION_WORDS,
+    )?;
     waiting.add(to)?;
     let reader = writer.reader()?;
     Ok(SessionEnds { words, reader })
@@ -182,7 +185,7 @@ pub fn open_keeper<B: BoardName, S: StateStore + Drop, R: Wait>(
     requires node { node.domain ≡ B.domain }
     requires running { S.stopped store ≡ false }
     requires last { S.last store ≡ node.saved }
-    ensures kept { IfOk result (λ ends. ends.0.kept ≡ record { node = node; ticks = 0; refused = 0 }) }
+    ensures owned { IfOk result (λ ends. ends.0.owned ≡ record { node = node; ticks = 0; refused = 0 }) }
     ensures store { IfOk result (λ ends. ends.0.store ≡ store) }
     ensures running { IfOk result (λ ends. ends.0.stopped ≡ false) }
     ensures taken { IfOk result (λ ends. taken_by ends.0.taker ≡ []) }
@@ -197,12 +200,12 @@ pub fn open_keeper<B: BoardName, S: StateStore + Drop, R: Wait>(
     ensures readers { IfOk result (λ ends. All (λ s. s.reader.pass ≡ published ends.0.writer.inner)
         ends.2.items) }
 {
-    let Ok(kept) = KeptNode::new(alloc, node) else {
+    let Ok(owned) = OwnedNode::new(alloc, node) else {
         drop(store);
         return Err(WantOfMemory);
     };
-    let Ok(front) = open_front(rt, alloc, history, kept.node()) else {
-        drop(kept);
+    let Ok(front) = open_front(rt, alloc, history, owned.node()) else {
+        drop(owned);
         drop(store);
         return Err(WantOfMemory);
     };
@@ -215,7 +218,7 @@ pub fn open_keeper<B: BoardName, S: StateStore + Drop, R: Wait>(
     } = front;
     let keeper = Keeper {
         taker,
-        kept,
+        owned,
         store,
         writer,
         waiting,
@@ -252,7 +255,7 @@ pub fn open_saved<B: BoardName, S: StateStore + Drop, R: Wait>(
     requires group { IsGroup owner.n }
     requires id { owner.id < owner.n }
     requires running { S.stopped store ≡ false }
-    ensures kept { IfOk result (λ ends. ends.0.kept
+    ensures owned { IfOk result (λ ends. ends.0.owned
         ≡ record { node = node_from owner (S.last store); ticks = 0; refused = 0 }) }
     ensures store { IfOk result (λ ends. ends.0.store ≡ store) }
     ensures running { IfOk result (λ ends. ends.0.stopped ≡ false) }

@@ -25,7 +25,7 @@ impl<B: BoardName, S: StateStore> Keeper<B, S> {
         ensures took { MatchOption result.1 (taken_by result.0.taker ≡ taken_by self.taker)
             (λ sent. taken_by result.0.taker ≡ taken_by self.taker ++ sent ∷ []) }
         ensures left { no_sender_left result.0.taker ≡ not (is_some result.1) }
-        ensures kept { result.0.kept ≡ self.kept }
+        ensures owned { result.0.owned ≡ self.owned }
         ensures store { result.0.store ≡ self.store }
         ensures stopped { result.0.stopped ≡ self.stopped }
         ensures waiting { result.0.waiting ≡ self.waiting }
@@ -34,7 +34,7 @@ impl<B: BoardName, S: StateStore> Keeper<B, S> {
     {
         let Keeper {
             taker,
-            kept,
+            owned,
             store,
             writer,
             waiting,
@@ -45,7 +45,7 @@ impl<B: BoardName, S: StateStore> Keeper<B, S> {
         let (taker, sent) = taker.take(rt);
         let keeper = Keeper {
             taker,
-            kept,
+            owned,
             store,
             writer,
             waiting,
@@ -67,24 +67,24 @@ impl<B: BoardName, S: StateStore> Keeper<B, S> {
         requires positive { 0 < most }
         ensures same { IsSameTaker self.taker result.0.taker }
         ensures went { IfOk result.1 (λ more. more ≡ true → RanInTurns O.Out S.StateStore most
-            (taken_by self.taker) (stand self.kept self.waiting self.store (published self.writer.inner)
+            (taken_by self.taker) (stand self.owned self.waiting self.store (published self.writer.inner)
             self.all_published out.old) (taken_by result.0.taker)
-            (stand result.0.kept result.0.waiting result.0.store (published result.0.writer.inner)
+            (stand result.0.owned result.0.waiting result.0.store (published result.0.writer.inner)
             result.0.all_published out.new)) }
         ensures turns { IfOk result.1 (λ more. more ≡ false → RanToEnd O.Out S.StateStore most
-            (taken_by self.taker) (stand self.kept self.waiting self.store (published self.writer.inner)
+            (taken_by self.taker) (stand self.owned self.waiting self.store (published self.writer.inner)
             self.all_published out.old) (taken_by result.0.taker)
-            (stand result.0.kept result.0.waiting result.0.store (published result.0.writer.inner)
+            (stand result.0.owned result.0.waiting result.0.store (published result.0.writer.inner)
             result.0.all_published out.new) (no_sender_left result.0.taker)) }
         ensures ends { IfOk result.1 (λ more. more ≡ false →
             HasRunOut (taken_by self.taker) (taken_by result.0.taker) (no_sender_left result.0.taker)) }
         ensures failed { IfErr result.1 (λ r. TakesLast S.StateStore most r (taken_by self.taker)
-            (stand self.kept self.waiting self.store (published self.writer.inner)
+            (stand self.owned self.waiting self.store (published self.writer.inner)
             self.all_published out.old) (taken_by result.0.taker)
-            (stand result.0.kept result.0.waiting result.0.store (published result.0.writer.inner)
+            (stand result.0.owned result.0.waiting result.0.store (published result.0.writer.inner)
             result.0.all_published out.new)) }
         ensures filed { self.stopped ≡ false → OnOk result.1 ((result.0.stopped ≡ false)
-            × IsFiled S.StateStore self.store result.0.store result.0.kept.node.saved) }
+            × IsFiled S.StateStore self.store result.0.store result.0.owned.node.saved) }
         ensures fault { IfErr result.1 IsStoreRefusal }
         ensures first { self.stopped ≡ false → IfErr result.1 (λ r. r ≡ refusals.StoreFault) }
         ensures after { self.stopped ≡ true → IfErr result.1 (λ r. r ≡ refusals.NodeStopped) }
@@ -124,23 +124,23 @@ impl<B: BoardName, S: StateStore> Keeper<B, S> {
     ) -> (Keeper<B, S>, Result<(), Refusal>)
         requires positive { 0 < most }
         ensures same { IsSameTaker self.taker result.0.taker }
-        ensures did { OnOk result.1 (Ran O.Out (taken_by self.taker) self.kept out.old
-            (taken_by result.0.taker) result.0.kept out.new) }
+        ensures did { OnOk result.1 (Ran O.Out (taken_by self.taker) self.owned out.old
+            (taken_by result.0.taker) result.0.owned out.new) }
         ensures turns { OnOk result.1 (RanToEnd O.Out S.StateStore most (taken_by self.taker)
-            (stand self.kept self.waiting self.store (published self.writer.inner)
+            (stand self.owned self.waiting self.store (published self.writer.inner)
             self.all_published out.old) (taken_by result.0.taker)
-            (stand result.0.kept result.0.waiting result.0.store (published result.0.writer.inner)
+            (stand result.0.owned result.0.waiting result.0.store (published result.0.writer.inner)
             result.0.all_published out.new) (no_sender_left result.0.taker)) }
         // It goes on past each item that is refused for want of memory.
         ensures ends { OnOk result.1 (HasRunOut (taken_by self.taker) (taken_by result.0.taker)
             (no_sender_left result.0.taker)) }
         ensures failed { IfErr result.1 (λ r. RanToTurn O.Out S.StateStore most r (taken_by self.taker)
-            (stand self.kept self.waiting self.store (published self.writer.inner)
+            (stand self.owned self.waiting self.store (published self.writer.inner)
             self.all_published out.old) (taken_by result.0.taker)
-            (stand result.0.kept result.0.waiting result.0.store (published result.0.writer.inner)
+            (stand result.0.owned result.0.waiting result.0.store (published result.0.writer.inner)
             result.0.all_published out.new)) }
         ensures filed { self.stopped ≡ false → OnOk result.1 ((result.0.stopped ≡ false)
-            × IsFiled S.StateStore self.store result.0.store result.0.kept.node.saved) }
+            × IsFiled S.StateStore self.store result.0.store result.0.owned.node.saved) }
         ensures fault { IfErr result.1 IsStoreRefusal }
         // The first fault is 41, and from then on it is 34.
         ensures first { self.stopped ≡ false → IfErr result.1 (λ r. r ≡ refusals.StoreFault) }
@@ -165,29 +165,29 @@ impl<B: BoardName, S: StateStore> Keeper<B, S> {
     /// where the store had failed before; then nothing of the last item went out or was published.
     pub fn run<R: Wait, O: Out>(self, rt: &R, out: &mut O) -> (Keeper<B, S>, Result<(), Refusal>)
         ensures same { IsSameTaker self.taker result.0.taker }
-        ensures did { OnOk result.1 (Ran O.Out (taken_by self.taker) self.kept out.old
-            (taken_by result.0.taker) result.0.kept out.new) }
+        ensures did { OnOk result.1 (Ran O.Out (taken_by self.taker) self.owned out.old
+            (taken_by result.0.taker) result.0.owned out.new) }
         // It goes on past each item that is refused for want of memory.
         ensures ends { OnOk result.1 (HasRunOut (taken_by self.taker) (taken_by result.0.taker)
             (no_sender_left result.0.taker)) }
         ensures failed { IfErr result.1 (λ r. RanToLast O.Out S.StateStore r (taken_by self.taker)
-            (stand self.kept self.waiting self.store (published self.writer.inner)
+            (stand self.owned self.waiting self.store (published self.writer.inner)
             self.all_published out.old) (taken_by result.0.taker)
-            (stand result.0.kept result.0.waiting result.0.store (published result.0.writer.inner)
+            (stand result.0.owned result.0.waiting result.0.store (published result.0.writer.inner)
             result.0.all_published out.new)) }
         // Its items are turns of one, so the sessions that wait are told what those of turns are.
         ensures turns { OnOk result.1 (RanToEnd O.Out S.StateStore 1 (taken_by self.taker)
-            (stand self.kept self.waiting self.store (published self.writer.inner)
+            (stand self.owned self.waiting self.store (published self.writer.inner)
             self.all_published out.old) (taken_by result.0.taker)
-            (stand result.0.kept result.0.waiting result.0.store (published result.0.writer.inner)
+            (stand result.0.owned result.0.waiting result.0.store (published result.0.writer.inner)
             result.0.all_published out.new) (no_sender_left result.0.taker)) }
         ensures last { IfErr result.1 (λ r. RanToTurn O.Out S.StateStore 1 r (taken_by self.taker)
-            (stand self.kept self.waiting self.store (published self.writer.inner)
+            (stand self.owned self.waiting self.store (published self.writer.inner)
             self.all_published out.old) (taken_by result.0.taker)
-            (stand result.0.kept result.0.waiting result.0.store (published result.0.writer.inner)
+            (stand result.0.owned result.0.waiting result.0.store (published result.0.writer.inner)
             result.0.all_published out.new)) }
         ensures filed { self.stopped ≡ false → OnOk result.1 ((result.0.stopped ≡ false)
-            × IsFiled S.StateStore self.store result.0.store result.0.kept.node.saved) }
+            × IsFiled S.StateStore self.store result.0.store result.0.owned.node.saved) }
         ensures fault { IfErr result.1 IsStoreRefusal }
         // The first fault is 41, and from then on it is 34.
         ensures first { self.stopped ≡ false → IfErr result.1 (λ r. r ≡ refusals.StoreFault) }

@@ -39,27 +39,27 @@ fn act_all_and_save<B: BoardName, S: StateStore, R: Wait>(
     item: Item,
     most: usize,
 ) -> (Turn<B>, Result<(), Refusal>)
-    requires last { S.last store.old ≡ turn.kept.node.saved }
+    requires last { S.last store.old ≡ turn.owned.node.saved }
     requires running { S.stopped store.old ≡ false }
     requires positive { 0 < most }
     requires late { turn.late ≡ None }
     ensures taker { IsSameTaker turn.taker result.0.taker }
     ensures did { (sent : List _) × (length sent < most)
         × (taken_by result.0.taker ≡ taken_by turn.taker ++ sent)
-        × DidMore turn.kept turn.steps.items (item ∷ items_in sent) result.0.kept result.0.steps.items
+        × DidMore turn.owned turn.steps.items (item ∷ items_in sent) result.0.owned result.0.steps.items
         × NotesItems (item ∷ items_in sent) turn.waiting result.0.waiting result.0.late
         × OnlyLastEnds (item ∷ items_in sent) }
-    ensures committed { IsLogPrefix (committed_entries turn.kept.node.saved)
-        (committed_entries result.0.kept.node.saved) }
-    ensures filed { OnOk result.1 (IsFiled S.StateStore store.old store.new result.0.kept.node.saved) }
-    ensures left { OnErr result.1 (IsUnfiled S.StateStore store.old store.new turn.kept.node.saved
-        result.0.kept.node.saved) }
+    ensures committed { IsLogPrefix (committed_entries turn.owned.node.saved)
+        (committed_entries result.0.owned.node.saved) }
+    ensures filed { OnOk result.1 (IsFiled S.StateStore store.old store.new result.0.owned.node.saved) }
+    ensures left { OnErr result.1 (IsUnfiled S.StateStore store.old store.new turn.owned.node.saved
+        result.0.owned.node.saved) }
     ensures fault { IfErr result.1 (λ r. r ≡ refusals.StoreFault) }
 {
-    let before = turn.kept.node().saved().commit();
+    let before = turn.owned.node().saved().commit();
     let turn = turn.add(alloc, item);
     let turn = turn.fill(rt, alloc, most);
-    let outcome = store.save_state(turn.kept.node().saved(), before);
+    let outcome = store.save_state(turn.owned.node().saved(), before);
     (turn, outcome)
 }
 
@@ -89,28 +89,28 @@ fn end_saved<B: BoardName, S: StateStore, R: Wait, O: Out>(
     turn: Turn<B>,
     out: &mut O,
 ) -> Keeper<B, S>
-    requires last { S.last store ≡ turn.kept.node.saved }
+    requires last { S.last store ≡ turn.owned.node.saved }
     requires running { S.stopped store ≡ false }
-    requires behind { EqualsPrefix writer.noted (committed_entries turn.kept.node.saved) }
-    requires domain { turn.kept.node.domain ≡ B.domain }
+    requires noted { EqualsPrefix writer.noted (committed_entries turn.owned.node.saved) }
+    requires domain { turn.owned.node.domain ≡ B.domain }
     ensures taker { result.taker ≡ turn.taker }
-    ensures kept { result.kept ≡ turn.kept }
+    ensures owned { result.owned ≡ turn.owned }
     ensures store { result.store ≡ store }
     ensures stopped { result.stopped ≡ false }
     ensures gave { O.Out.takes out.old (packets_of_steps turn.steps.items) out.new }
     ensures grows { IsPrefix (published writer.inner) (published result.writer.inner) }
-    ensures told { (heard : List _) × AllZip (HearsAll (answers_of_steps turn.steps.items)) turn.waiting heard
+    ensures reported { (heard : List _) × AllZip (HearsAll (answers_of_steps turn.steps.items)) turn.waiting heard
         × TellsRoundLate (published result.writer.inner) turn.late heard result.waiting }
 {
     let Turn {
         taker,
-        kept,
+        owned,
         mut waiting,
         steps,
         late,
         is_over: _,
     } = turn;
-    let (writer, all_published) = writer.publish(rt, kept.node().saved(), true);
+    let (writer, all_published) = writer.publish(rt, owned.node().saved(), true);
     hand_steps(out, &mut waiting, steps);
     // who is answered in this turn is told so before a tick or a stop can end the wait
     waiting.tell(rt, &writer);
@@ -119,7 +119,7 @@ fn end_saved<B: BoardName, S: StateStore, R: Wait, O: Out>(
     waiting.tell(rt, &writer);
     Keeper {
         taker,
-        kept,
+        owned,
         store,
         writer,
         waiting,
@@ -137,20 +137,20 @@ fn end_unsaved<B: BoardName, S: StateStore, R: Wait>(
     writer: BoardWriter<B>,
     turn: Turn<B>,
 ) -> Keeper<B, S>
-    requires behind { EqualsPrefix writer.noted (committed_entries turn.kept.node.saved) }
-    requires shown { EqualsPrefix (published writer.inner) (committed_entries turn.kept.node.saved) }
-    requires domain { turn.kept.node.domain ≡ B.domain }
+    requires noted { EqualsPrefix writer.noted (committed_entries turn.owned.node.saved) }
+    requires shown { EqualsPrefix (published writer.inner) (committed_entries turn.owned.node.saved) }
+    requires domain { turn.owned.node.domain ≡ B.domain }
     ensures taker { result.taker ≡ turn.taker }
-    ensures kept { result.kept ≡ turn.kept }
+    ensures owned { result.owned ≡ turn.owned }
     ensures store { result.store ≡ store }
     ensures stopped { result.stopped ≡ true }
     ensures writer { result.writer ≡ writer }
-    ensures told { AllZip (Tells (published writer.inner))
+    ensures reported { AllZip (Tells (published writer.inner))
         (map after_stop (after_items (option_to_list turn.late) turn.waiting)) result.waiting }
 {
     let Turn {
         taker,
-        kept,
+        owned,
         mut waiting,
         steps,
         late,
@@ -163,7 +163,7 @@ fn end_unsaved<B: BoardName, S: StateStore, R: Wait>(
     waiting.tell(rt, &writer);
     Keeper {
         taker,
-        kept,
+        owned,
         store,
         writer,
         waiting,
@@ -188,9 +188,9 @@ impl<B: BoardName, S: StateStore> Keeper<B, S> {
         ensures taker { IsSameTaker self.taker result.0.taker }
         ensures did { OnOk result.1 ((sent : List _) × (taken_by result.0.taker ≡ taken_by self.taker ++ sent)
             × TakesTurn O.Out S.StateStore most (item ∷ items_in sent)
-            (stand self.kept self.waiting self.store (published self.writer.inner)
+            (stand self.owned self.waiting self.store (published self.writer.inner)
             self.all_published out.old)
-            (stand result.0.kept result.0.waiting result.0.store (published result.0.writer.inner)
+            (stand result.0.owned result.0.waiting result.0.store (published result.0.writer.inner)
             result.0.all_published out.new)) }
         ensures stopped { IfOk result.1 (λ more. more ≡ false → (sent : List _)
             × (taken_by result.0.taker ≡ taken_by self.taker ++ sent) × EndsInStop (item ∷ items_in sent)) }
@@ -201,9 +201,9 @@ impl<B: BoardName, S: StateStore> Keeper<B, S> {
             × TellsOfStop (published self.writer.inner) (item ∷ items_in sent) self.waiting
             result.0.waiting
             × DoesUnsaved S.StateStore (item ∷ items_in sent)
-            (stand self.kept self.waiting self.store (published self.writer.inner)
+            (stand self.owned self.waiting self.store (published self.writer.inner)
             self.all_published out.old)
-            (stand result.0.kept result.0.waiting result.0.store (published result.0.writer.inner)
+            (stand result.0.owned result.0.waiting result.0.store (published result.0.writer.inner)
             result.0.all_published out.new)) }
         ensures running { OnOk result.1 (result.0.stopped ≡ false) }
         ensures stops { OnErr result.1 (result.0.stopped ≡ true) }
@@ -211,7 +211,7 @@ impl<B: BoardName, S: StateStore> Keeper<B, S> {
     {
         let Keeper {
             taker,
-            kept,
+            owned,
             mut store,
             writer,
             waiting,
@@ -219,7 +219,7 @@ impl<B: BoardName, S: StateStore> Keeper<B, S> {
             all_published: _,
             alloc,
         } = self;
-        let turn = Turn::new(alloc, taker, kept, waiting);
+        let turn = Turn::new(alloc, taker, owned, waiting);
         let (turn, outcome) = act_all_and_save(rt, alloc, &mut store, turn, item, most);
         match outcome {
             Ok(()) => {

@@ -5,7 +5,7 @@ ghost use Rattle.std.specs.List.{AllZip};
 ghost use Rattle.desk_log.specs.Entries.{IsLogPrefix};
 ghost use Rattle.desk_log.specs.SavedValue.{committed_entries};
 ghost use Rattle.desk_mailbox.specs.Ends.{taken_by, IsSameTaker};
-ghost use Rattle.desk_threads.specs.KeptValue.{with_one_refused};
+ghost use Rattle.desk_threads.specs.OwnedValue.{with_one_refused};
 ghost use Rattle.desk_threads.specs.Waiting.{HearsAll};
 ghost use Rattle.desk_threads.specs.EndingItems.{may_carry_log, ends_turn};
 ghost use Rattle.desk_threads.specs.Telling.{late_of, NotesItems};
@@ -13,7 +13,7 @@ ghost use Rattle.desk_threads.specs.Turns.{packets_of_steps, answers_of_steps, D
 ghost use Rattle.desk_threads.specs.Turns.{AddsToTurn};
 
 use crate::handing::{Out, hand_all};
-use crate::kept_node::KeptNode;
+use crate::owned_node::OwnedNode;
 use crate::waiting::WaitingSessions;
 use desk_mailbox::{Item, Taker};
 use desk_node::Step;
@@ -28,7 +28,7 @@ pub const TURN_ITEMS: usize = 64;
 /// Items that were taken and done, and are not saved yet.
 pub(crate) struct Turn<B: BoardName> {
     pub(crate) taker: Taker<Item>,
-    pub(crate) kept: KeptNode,
+    pub(crate) owned: OwnedNode,
     pub(crate) waiting: WaitingSessions<B>,
     /// What they made, in order.
     pub(crate) steps: Vec<Step>,
@@ -81,24 +81,24 @@ fn ends_turn(item: &Item) -> bool
 }
 
 /// Refuses an item for whose step there is no room: it is not done, and it is counted.
-fn refuse_item(kept: &mut KeptNode, item: Item)
-    ensures { kept.new ≡ with_one_refused kept.old }
+fn refuse_item(owned: &mut OwnedNode, item: Item)
+    ensures { owned.new ≡ with_one_refused owned.old }
 {
     drop(item);
-    kept.refuse();
+    owned.refuse();
 }
 
 /// Does an item, and puts what it made after the steps before. Where there is no room for that it is refused, as for
 /// any want of memory, and is not done.
-fn act_later(alloc: Global, kept: &mut KeptNode, steps: &mut Vec<Step>, item: Item)
-    ensures did { DidMore kept.old steps.old.items (item ∷ []) kept.new steps.new.items }
-    ensures committed { IsLogPrefix (committed_entries kept.old.node.saved) (committed_entries kept.new.node.saved) }
+fn act_later(alloc: Global, owned: &mut OwnedNode, steps: &mut Vec<Step>, item: Item)
+    ensures did { DidMore owned.old steps.old.items (item ∷ []) owned.new steps.new.items }
+    ensures committed { IsLogPrefix (committed_entries owned.old.node.saved) (committed_entries owned.new.node.saved) }
 {
     if steps.reserve(1).is_err() {
-        refuse_item(kept, item);
+        refuse_item(owned, item);
         return;
     }
-    match kept.act(alloc, item) {
+    match owned.act(alloc, item) {
         Ok(step) => steps.push_reserved(step),
         Err(_) => {}
     }
@@ -124,18 +124,18 @@ impl<B: BoardName> Turn<B> {
     pub(crate) fn new(
         alloc: Global,
         taker: Taker<Item>,
-        kept: KeptNode,
+        owned: OwnedNode,
         waiting: WaitingSessions<B>,
     ) -> Turn<B>
         ensures taker { result.taker ≡ taker }
-        ensures kept { result.kept ≡ kept }
+        ensures owned { result.owned ≡ owned }
         ensures waiting { result.waiting ≡ waiting }
         ensures steps { result.steps.items ≡ [] }
         ensures late { result.late ≡ None }
     {
         Turn {
             taker,
-            kept,
+            owned,
             waiting,
             steps: Vec::new(alloc),
             late: None,
@@ -147,15 +147,15 @@ impl<B: BoardName> Turn<B> {
     pub(crate) fn add(self, alloc: Global, item: Item) -> Turn<B>
         requires { self.late ≡ None }
         ensures taker { result.taker ≡ self.taker }
-        ensures did { DidMore self.kept self.steps.items (item ∷ []) result.kept result.steps.items }
+        ensures did { DidMore self.owned self.steps.items (item ∷ []) result.owned result.steps.items }
         ensures noted { NotesItems (item ∷ []) self.waiting result.waiting result.late }
         ensures over { result.is_over ≡ ends_turn item }
-        ensures committed { IsLogPrefix (committed_entries self.kept.node.saved)
-            (committed_entries result.kept.node.saved) }
+        ensures committed { IsLogPrefix (committed_entries self.owned.node.saved)
+            (committed_entries result.owned.node.saved) }
     {
         let Turn {
             taker,
-            mut kept,
+            mut owned,
             mut waiting,
             mut steps,
             late: _,
@@ -166,10 +166,10 @@ impl<B: BoardName> Turn<B> {
         if late.is_none() {
             waiting.note(&item);
         }
-        act_later(alloc, &mut kept, &mut steps, item);
+        act_later(alloc, &mut owned, &mut steps, item);
         Turn {
             taker,
-            kept,
+            owned,
             waiting,
             steps,
             late,
@@ -180,19 +180,19 @@ impl<B: BoardName> Turn<B> {
     // Takes an item that is there, where the turn takes more, and does it. False where none was taken.
     fn add_next<R: Wait>(self, rt: &R, alloc: Global) -> (Turn<B>, bool)
         ensures taker { IsSameTaker self.taker result.0.taker }
-        ensures did { (sent : List _) × (length sent ≤ 1) × TookMore (taken_by self.taker) self.kept
-            self.steps.items sent (taken_by result.0.taker) result.0.kept result.0.steps.items
+        ensures did { (sent : List _) × (length sent ≤ 1) × TookMore (taken_by self.taker) self.owned
+            self.steps.items sent (taken_by result.0.taker) result.0.owned result.0.steps.items
             × NotesMore sent self.waiting self.late result.0.waiting result.0.late
             × AddsToTurn sent self.is_over result.0.is_over }
-        ensures committed { IsLogPrefix (committed_entries self.kept.node.saved)
-            (committed_entries result.0.kept.node.saved) }
+        ensures committed { IsLogPrefix (committed_entries self.owned.node.saved)
+            (committed_entries result.0.owned.node.saved) }
     {
         if self.is_over {
             return (self, false);
         }
         let Turn {
             taker,
-            kept,
+            owned,
             waiting,
             steps,
             late,
@@ -201,7 +201,7 @@ impl<B: BoardName> Turn<B> {
         let (taker, sent) = taker.try_take(rt);
         let turn = Turn {
             taker,
-            kept,
+            owned,
             waiting,
             steps,
             late,
@@ -218,12 +218,12 @@ impl<B: BoardName> Turn<B> {
     pub(crate) fn fill<R: Wait>(self, rt: &R, alloc: Global, most: usize) -> Turn<B>
         requires positive { 0 < most }
         ensures taker { IsSameTaker self.taker result.taker }
-        ensures did { (sent : List _) × (length sent < most) × TookMore (taken_by self.taker) self.kept
-            self.steps.items sent (taken_by result.taker) result.kept result.steps.items
+        ensures did { (sent : List _) × (length sent < most) × TookMore (taken_by self.taker) self.owned
+            self.steps.items sent (taken_by result.taker) result.owned result.steps.items
             × NotesMore sent self.waiting self.late result.waiting result.late
             × AddsToTurn sent self.is_over result.is_over }
-        ensures committed { IsLogPrefix (committed_entries self.kept.node.saved)
-            (committed_entries result.kept.node.saved) }
+        ensures committed { IsLogPrefix (committed_entries self.owned.node.saved)
+            (committed_entries result.owned.node.saved) }
     {
         let mut turn = self;
         for added in 1..most {

@@ -8,7 +8,7 @@ ghost use Rattle.desk_threads.specs.Waiting.{idle, after_tick, after_stop, after
 use crate::waiting_session::WaitingSession;
 use crossbeam_channel::Sender;
 use desk_mailbox::Item;
-use desk_published::{BoardName, BoardWriter, Told};
+use desk_published::{BoardName, BoardWriter, Reported};
 use desk_types::{Outcome, WantOfMemory};
 use std::alloc::Global;
 use std::marker::Model;
@@ -83,7 +83,7 @@ impl<B: BoardName> WaitingSessions<B> {
     }
 
     /// One session more, which gets its answers on this channel. It has the next number.
-    pub fn add(&mut self, to: Sender<Told<B>>) -> Result<(), WantOfMemory>
+    pub fn add(&mut self, to: Sender<Reported<B>>) -> Result<(), WantOfMemory>
         ensures { MatchResult result (λ _. self.new ≡ self.old ++ idle ∷ []) (λ _. self.new ≡ self.old) }
     {
         self.sessions.reserve(1)?;

@@ -12,16 +12,16 @@ ghost use Rattle.desk_threads.specs.Waiting.{word_to_tell, after_word, with_unse
 use crate::awaits::{Awaited, copy_refusal, place_of};
 use crate::limits::WAITING_TICKS;
 use crossbeam_channel::{Sender, TrySendError};
-use desk_published::{BoardName, BoardWriter, Told};
+use desk_published::{BoardName, BoardWriter, Reported};
 use desk_types::{ClientId, Outcome, Refusal, RequestNumber};
 use std::marker::Model;
 use std::sync::Wait;
 
 /// A session that may wait for an answer. A contract sees all but the channel.
 pub(crate) struct WaitingSession<B: BoardName> {
-    to: Sender<Told<B>>,
+    to: Sender<Reported<B>>,
     awaits: Awaited,
-    unsent: Option<Told<B>>,
+    unsent: Option<Reported<B>>,
     asked: Option<(ClientId, RequestNumber)>,
     ticks: u64,
 }
@@ -70,7 +70,7 @@ fn word_on<B: BoardName>(
     client: ClientId,
     number: RequestNumber,
     awaits: Awaited,
-) -> Result<Told<B>, Awaited>
+) -> Result<Reported<B>, Awaited>
     ensures { MatchResult result
         (λ t. word_on (published writer.now.inner) client number awaits
         ≡ Some (said t.published t.client t.number t.word))
@@ -80,7 +80,7 @@ fn word_on<B: BoardName>(
         Awaited::Nothing => Err(Awaited::Nothing),
         Awaited::Commit => Err(Awaited::Commit),
         Awaited::Publish(place) => match writer.tell(client, number, place) {
-            Some(told) => Ok(told),
+            Some(reported) => Ok(reported),
             None => Err(Awaited::Publish(place)),
         },
         Awaited::Refusal(refusal) => Ok(writer.refuse(client, number, refusal)),
@@ -89,7 +89,7 @@ fn word_on<B: BoardName>(
 
 impl<B: BoardName> WaitingSession<B> {
     /// A session that has asked nothing, and is told on this channel.
-    pub(crate) fn new(to: Sender<Told<B>>) -> WaitingSession<B>
+    pub(crate) fn new(to: Sender<Reported<B>>) -> WaitingSession<B>
         ensures { result ≡ idle }
     {
         WaitingSession {
@@ -208,7 +208,7 @@ impl<B: BoardName> WaitingSession<B> {
     }
 
     // What can be told of its last request. It is told once.
-    fn word_asked(&mut self, writer: &BoardWriter<B>) -> Option<Told<B>>
+    fn word_asked(&mut self, writer: &BoardWriter<B>) -> Option<Reported<B>>
         ensures { MatchOption result
             ((word_asked (published writer.now.inner) self.old.asked self.old.awaits ≡ None)
             × (self.new ≡ self.old))
@@ -220,7 +220,7 @@ impl<B: BoardName> WaitingSession<B> {
             Some((client, number)) => {
                 let waited = std::mem::replace(&mut self.awaits, Awaited::Nothing);
                 match word_on(writer, client, number, waited) {
-                    Ok(told) => Some(told),
+                    Ok(reported) => Some(reported),
                     Err(waited) => {
                         self.wait_for(waited);
                         None
@@ -231,16 +231,16 @@ impl<B: BoardName> WaitingSession<B> {
     }
 
     // What it can be told now. It is told once.
-    fn word(&mut self, writer: &BoardWriter<B>) -> Option<Told<B>>
+    fn word(&mut self, writer: &BoardWriter<B>) -> Option<Reported<B>>
         ensures { MatchOption result
             ((word_to_tell (published writer.now.inner) self.old ≡ None) × (self.new ≡ self.old))
             (λ t. (word_to_tell (published writer.now.inner) self.old
             ≡ Some (said t.published t.client t.number t.word)) × (self.new ≡ after_word self.old)) }
     {
         match self.unsent.take() {
-            Some(told) => {
+            Some(reported) => {
                 self.wait_for(Awaited::Nothing);
-                Some(told)
+                Some(reported)
             }
             None => self.word_asked(writer),
         }
@@ -248,25 +248,26 @@ impl<B: BoardName> WaitingSession<B> {
 
     // What comes of a word that was given to its channel: where that had no room it is left for the next time, and
     // where its receiver is gone it is not.
-    fn keep_unsent(&mut self, sent: Result<(), TrySendError<Told<B>>>)
+    fn keep_unsent(&mut self, sent: Result<(), TrySendError<Reported<B>>>)
         requires { self.old.unsent ≡ None }
         ensures { self.new ≡ after_send sent (λ t. said t.published t.client t.number t.word) self.old }
     {
         match sent {
             Ok(()) => {}
-            Err(TrySendError::Disconnected(told)) => drop(told),
-            Err(TrySendError::Full(told)) => self.unsent = Some(told),
-            Err(TrySendError::OutOfMemory(told)) => self.unsent = Some(told),
+            Err(TrySendError::Disconnected(reported)) => drop(reported),
+            Err(TrySendError::Full(reported)) => self.unsent = Some(reported),
+            Err(TrySendError::OutOfMemory(reported)) => self.unsent = Some(reported),
         }
     }
 
     // Gives a word to its channel, and keeps it exactly where `keep_unsent` says.
-    fn send<R: Wait>(&mut self, rt: &R, told: Told<B>)
+    fn send<R: Wait>(&mut self, rt: &R, reported: Reported<B>)
         requires { self.old.unsent ≡ None }
         ensures { (self.new ≡ self.old)
-            ⊎ (self.new ≡ with_unsent (said told.published told.client told.number told.word) self.old) }
+            ⊎ (self.new ≡ with_unsent (said reported.published reported.client reported.number reported.word)
+            self.old) }
     {
-        let sent = self.to.try_send(rt, told);
+        let sent = self.to.try_send(rt, reported);
         self.keep_unsent(sent);
     }
 
@@ -275,7 +276,7 @@ impl<B: BoardName> WaitingSession<B> {
         ensures { Tells (published writer.now.inner) self.old self.new }
     {
         match self.word(writer) {
-            Some(told) => self.send(rt, told),
+            Some(reported) => self.send(rt, reported),
             None => {}
         }
     }

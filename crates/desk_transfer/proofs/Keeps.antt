@@ -17,7 +17,7 @@ keeps_get_state i s from w b =
     (λ _. keeps_nothing s)
 
 pub get_state_keeps : GetStateKeeps
-get_state_keeps i s from w b = (keeps_get_state i s from w b).kept
+get_state_keeps i s from w b = (keeps_get_state i s from w b).preserved
 
 keeps_new_state : (i n : ℕ) (s : SavedValue) (w b c : ℕ) (es : List Entry) → s.normal ≤ s.view →
     UndoesNothing s (on_new_state i n s w b c es)
@@ -32,4 +32,4 @@ keeps_new_state i n s w b c es order =
     (λ _. keeps_nothing s)))
 
 pub new_state_keeps : NewStateKeeps
-new_state_keeps i n s w b c es order = (keeps_new_state i n s w b c es order).kept
+new_state_keeps i n s w b c es order = (keeps_new_state i n s w b c es order).preserved

@@ -69,7 +69,7 @@ fn is_taken(member: GroupNode, saved: &Saved, view: u64, base: u64, entries: &[E
         ≡ adoption member.id member.n saved.now view commit (take base saved.now.log ++ entries.now) }
     ensures view { result ≡ true → saved.now.view ≤ view }
     ensures prefix { result ≡ true → base ≤ length saved.now.log }
-    ensures kept { result ≡ true → saved.now.commit ≤ base + length entries.now }
+    ensures preserved { result ≡ true → saved.now.commit ≤ base + length entries.now }
 {
     if view < saved.view() || member.id == member.primary(view) || saved.commit() < base {
         return false;

@@ -15,7 +15,7 @@ use Rattle.desk_units.specs.StandBys.{AreElsewhere, without_committed, without_a
 use Rattle.desk_units.specs.Verbs.{pair_after_merge, without_unit, units_after_merge}
 use Rattle.desk_units.proofs.NameTables.{count_more, any-none, nothing-found}
 use Rattle.desk_units.proofs.MovedPairs.{of_other, self-moved}
-use Rattle.desk_units.proofs.StandBys.{units_value, any-kept, without_passes, committed-there}
+use Rattle.desk_units.proofs.StandBys.{units_value, any-preserved, without_passes, committed-there}
 
 -- 1. filters
 
@@ -287,7 +287,7 @@ dropped-merged from to committed_to standing_by h =
     (λ q a b e. settle (is_to from q) (is_to to q)
     (among (units_of from standing_by ++ units_of to standing_by) (pair_after_merge from to q))
     (is_committed_there (map (pair_after_merge from to) committed_to) (pair_after_merge from to q))
-    (λ t. any-kept (λ name. is_unit name q) (units_of from standing_by) (units_of to standing_by) (a t))
+    (λ t. any-preserved (λ name. is_unit name q) (units_of from standing_by) (units_of to standing_by) (a t))
     (λ t. any_append (λ name. is_unit name q) (units_of from standing_by) (units_of to standing_by) (b t))
     (λ f g. third from to committed_to q f g e))
     standing_by (at_one from standing_by) (at_one to standing_by) h.elsewhere))

@@ -254,10 +254,10 @@ name-removed name slots es n k h at =
     ∙ removed-once (is_named name n) (live slots) (h.once n)
 
 -- where a name has no slot nothing is taken out
-pub name-kept : {A : Type 0} (name : A → List ℕ) (slots : List (Option A)) (es : List (List ℕ × ℕ)) (n : List ℕ) →
+pub name-preserved : {A : Type 0} (name : A → List ℕ) (slots : List (Option A)) (es : List (List ℕ × ℕ)) (n : List ℕ) →
     IsNameTable name slots es → lookup (bytes_eq n) es ≡ None →
     live slots ≡ filter (λ x. not (is_named name n x)) (live slots)
-name-kept name slots es n h at =
+name-preserved name slots es n h at =
     sym (keep-all (is_named name n) (live slots) (count-none (is_named name n) (live slots)
     (nothing-found (is_named name n) (live slots) (name-nowhere name slots es n h at))))
 

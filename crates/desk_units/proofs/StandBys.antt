@@ -38,9 +38,9 @@ none_step : (t u v : Bool) → (u ≡ false → v ≡ false) → (t || u) ≡ fa
 none_step true u v f h = h
 none_step false u v f h = f h
 
-pub any-kept : {A : Type 0} (p : A → Bool) (xs ys : List A) → list_any p xs ≡ true → list_any p (xs ++ ys) ≡ true
-any-kept p [] ys h = absurd (true≢false (sym h))
-any-kept p (x ∷ xs) ys h = some_step (p x) (list_any p xs) (list_any p (xs ++ ys)) (any-kept p xs ys) h
+pub any-preserved : {A : Type 0} (p : A → Bool) (xs ys : List A) → list_any p xs ≡ true → list_any p (xs ++ ys) ≡ true
+any-preserved p [] ys h = absurd (true≢false (sym h))
+any-preserved p (x ∷ xs) ys h = some_step (p x) (list_any p xs) (list_any p (xs ++ ys)) (any-preserved p xs ys) h
 
 none_last : {A : Type 0} (p : A → Bool) (y : A) (xs : List A) → list_any p xs ≡ false → p y ≡ false →
     list_any p (xs ++ y ∷ []) ≡ false
@@ -124,7 +124,7 @@ elsewhere-assigned committed_to standing_by name number free h =
       committed =
           All-weaker (λ p. list_any (is_unit p.unit) committed_to ≡ true)
           (λ p. list_any (is_unit p.unit) (committed_to ++ new ∷ []) ≡ true)
-          (λ p c. any-kept (is_unit p.unit) committed_to (new ∷ []) c) standing_by h.committed;
+          (λ p c. any-preserved (is_unit p.unit) committed_to (new ∷ []) c) standing_by h.committed;
       elsewhere =
           all_both (λ p. list_any (is_unit p.unit) committed_to ≡ true)
           (λ p. is_committed_there committed_to p ≡ false)

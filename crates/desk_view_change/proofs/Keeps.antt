@@ -25,7 +25,7 @@ unfolding new_view_with new_view
 keeps_new_view i n s k None order = keeps_nothing s
 keeps_new_view i n s k (Some o) order =
     keeps_if (keeps_committed s o.log)
-    (λ fit. record { kept = falls_log s.view o.log k s order (omega arith) fit })
+    (λ fit. record { preserved = falls_log s.view o.log k s order (omega arith) fit })
     (λ _. keeps_nothing s)
 
 keeps_choice : (i n : ℕ) (s : SavedValue) (offers : List (Option Offer)) → s.normal ≤ s.view →
@@ -66,7 +66,7 @@ keeps_start_view_change i n s h from w order =
     keeps_from w s _ fresh (keeps_support i n s.view (in_view w s) h from (omega (arith, order, fresh))))
 
 pub start_view_change_keeps : StartViewChangeKeeps
-start_view_change_keeps i n s h from w order = (keeps_start_view_change i n s h from w order).kept
+start_view_change_keeps i n s h from w order = (keeps_start_view_change i n s h from w order).preserved
 
 keeps_do_view_change : (i n : ℕ) (s : SavedValue) (h : ViewChangeHeard) (from w u c : ℕ) (l : List Entry) →
     s.normal ≤ s.view → UndoesNothing s (on_do_view_change i n s h from w u c l)
@@ -79,7 +79,7 @@ keeps_do_view_change i n s h from w u c l order =
     (keeps_choice i n (in_view w s) offers (omega (arith, order, fresh)))))
 
 pub do_view_change_keeps : DoViewChangeKeeps
-do_view_change_keeps i n s h from w u c l order = (keeps_do_view_change i n s h from w u c l order).kept
+do_view_change_keeps i n s h from w u c l order = (keeps_do_view_change i n s h from w u c l order).preserved
 
 keeps_start_view : (i n : ℕ) (s : SavedValue) (from w c : ℕ) (l : List Entry) → s.normal ≤ s.view →
     UndoesNothing s (on_start_view i n s from w c l)
@@ -90,16 +90,16 @@ keeps_start_view i n s from w c l order =
     keeps_if (keeps_committed s l) (λ fit. keeps_adoption i n s w c l order fresh fit) (λ _. keeps_nothing s))
 
 pub start_view_keeps : StartViewKeeps
-start_view_keeps i n s from w c l order = (keeps_start_view i n s from w c l order).kept
+start_view_keeps i n s from w c l order = (keeps_start_view i n s from w c l order).preserved
 
 keeps_suspect : (i n : ℕ) (s : SavedValue) → UndoesNothing s (on_suspect i n s)
 unfolding on_suspect
 keeps_suspect i n s =
-    keeps_if (ltb s.view LAST_VIEW) (λ _. record { kept = falls_view (s.view + 1) s (omega arith) })
+    keeps_if (ltb s.view LAST_VIEW) (λ _. record { preserved = falls_view (s.view + 1) s (omega arith) })
     (λ _. keeps_nothing s)
 
 pub suspect_keeps : SuspectKeeps
-suspect_keeps i n s = (keeps_suspect i n s).kept
+suspect_keeps i n s = (keeps_suspect i n s).preserved
 
 keeps_resend : (i n : ℕ) (s : SavedValue) (askers : List Bool) → UndoesNothing s (view_change_resend i n s askers)
 unfolding view_change_resend
@@ -109,4 +109,4 @@ keeps_resend i n s askers = keeps_after s [] (to_others i n (StartViewChange i s
     (λ _. keeps_nothing s))
 
 pub resend_keeps : ViewChangeResendKeeps
-resend_keeps i n s askers = (keeps_resend i n s askers).kept
+resend_keeps i n s askers = (keeps_resend i n s askers).preserved

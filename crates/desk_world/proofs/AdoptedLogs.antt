@@ -15,7 +15,7 @@ use Rattle.desk_log.specs.Quorum.{primary, is_from_primary}
 use Rattle.desk_log.specs.SavedValue.{SavedValue}
 use Rattle.desk_view_change.specs.Rules.{is_over, on_start_view}
 use Rattle.desk_transfer.specs.Rules.{joined_log, is_no_longer, on_get_state, on_new_state}
-use Rattle.desk_world.proofs.ViewLog.{has_begun, told_start, told_log}
+use Rattle.desk_world.proofs.ViewLog.{has_begun, announced_start, announced_log}
 use Rattle.desk_log.proofs.Prefixes.{prefix_refl, prefix_trans, length-prefix, prefixes_in_order, take-prefix}
 use Rattle.desk_log.proofs.Prefixes.{take_take-prefix}
 use Rattle.desk_log.proofs.KeepsCommitted.{keeps_committed-Decides}
@@ -31,8 +31,8 @@ use Rattle.desk_world.proofs.Views.{view_starts}
 -- A node that is not the view's primary takes a log of the view.
 safe_adoption : (domain : List ℕ) (n : ℕ) (ps : List Message) (at : Nodes) (i w c : ℕ) (l : List Entry) →
     GroupInvariant n ps at →
-    (at i).saved.view ≤ w → i ≢ primary n w → has_begun ps w ≡ true → IsLogPrefix (told_start ps w) l →
-    IsLogPrefix l (told_log ps w) → IsBacked n ps w c →
+    (at i).saved.view ≤ w → i ≢ primary n w → has_begun ps w ≡ true → IsLogPrefix (announced_start ps w) l →
+    IsLogPrefix l (announced_log ps w) → IsBacked n ps w c →
     keeps_committed (at i).saved l ≡ true → ((at i).saved.normal ≡ w → IsLogPrefix (at i).saved.log l) →
     Safe domain n ps at i (at i).received (adoption i n (at i).saved w c l)
 unfolding adoption
@@ -49,7 +49,7 @@ safe_adoption domain n ps at i w c l k fresh ne b f h p fit same =
       committed = rw keeps.1 (take_take-prefix s.commit new.commit l l (omega arith) (prefix_refl l));
       still = λ _ _. inl (omega arith);
     } in
-    let kept : NodeInvariant n ps i new = record {
+    let preserved : NodeInvariant n ps i new = record {
       order = omega arith;
       within_log = omega (arith, keeps.0);
       begun = b;
@@ -60,8 +60,8 @@ safe_adoption domain n ps at i w c l k fresh ne b f h p fit same =
           (IsBacked-to n ps s.normal w s.commit s.commit (omega (arith, own.order, fresh)) (omega arith) own.backed)
           (IsBacked-to n ps w w c (min c (length l)) (omega arith) (omega arith) p);
     } in
-    safe_plain domain n ps at i k new ((primary n w, PrepareOk i w (length l)) ∷ []) answers.Nothing later kept
-    (fit_ok n ps i s new w (length l) refl refl b (length-prefix l (told_log ps w) h) (omega arith), tt) tt
+    safe_plain domain n ps at i k new ((primary n w, PrepareOk i w (length l)) ∷ []) answers.Nothing later preserved
+    (fit_ok n ps i s new w (length l) refl refl b (length-prefix l (announced_log ps w) h) (omega arith), tt) tt
 
 pub safe_start_view : (domain : List ℕ) (n : ℕ) (ps : List Message) (at : Nodes) (i from w c : ℕ) (l : List Entry) →
     GroupInvariant n ps at → StartHolds n ps from w c l →
@@ -74,7 +74,7 @@ safe_start_view domain n ps at i from w c l k r =
     let o = not_over s.normal s.view w a.0 in
     safe_if (keeps_committed s l)
     (λ y. safe_adoption domain n ps at i w c l k o.0 (from_another i n from w a.1) r.begun
-    (rw r.log_is (prefix_refl (told_start ps w))) (rw r.log_is (view_starts ps w)) r.backed y
+    (rw r.log_is (prefix_refl (announced_start ps w))) (rw r.log_is (view_starts ps w)) r.backed y
     (λ e. absurd (o.1 (k.nodes i).order e)))
     (λ _. safe_nothing domain n ps at i k))
 
@@ -86,15 +86,15 @@ joined_is : (n : ℕ) (ps : List Message) (at : Nodes) (i w b c : ℕ) (es : Lis
 joined_is n ps at i w b c es group k r fresh l =
     let s : SavedValue = (at i).saved in
     let own : NodeInvariant n ps i s = k.nodes i in
-    let mine : IsLogPrefix (take s.commit s.log) (told_log ps w) =
+    let mine : IsLogPrefix (take s.commit s.log) (announced_log ps w) =
     backed_prefix n ps at group k s.normal s.commit s.log own.begun own.within own.within_log own.backed w
     (omega (arith, own.order, fresh)) r.begun in
     let fewer : IsLogPrefix (take b s.log) (take s.commit s.log) =
     take_take-prefix b s.commit s.log s.log l (prefix_refl s.log) in
-    let first : IsLogPrefix (take b s.log) (told_log ps w) = prefix_trans _ _ _ fewer mine in
+    let first : IsLogPrefix (take b s.log) (announced_log ps w) = prefix_trans _ _ _ fewer mine in
     let long : length (take b s.log) ≡ b = omega (arith, length-take b s.log, own.within_log) in
     let both : IsLogPrefix (take b s.log) r.log =
-    prefixes_in_order (take b s.log) r.log (told_log ps w) first r.within (omega (arith, r.base, long)) in
+    prefixes_in_order (take b s.log) r.log (announced_log ps w) first r.within (omega (arith, r.base, long)) in
     let same : take b s.log ≡ take b r.log = sym (take-prefix (take b s.log) r.log both)
     ∙ ap (λ x. take x r.log) long in
     rw (same, r.rest) (take-append-drop b r.log)
@@ -123,8 +123,9 @@ safe_new_state domain n ps at i w b c es group k r =
     l = joined_log s b es
 
     by_length : s.view ≤ w → s.normal ≡ w → (length s.log < length l) ⊎ (length l ≤ length s.log) →
-        is_no_longer s w l ≡ false → IsLogPrefix l (told_log ps w) → IsLogPrefix s.log l
-    by_length v e (inl lt) t f = prefixes_in_order s.log l (told_log ps w) (rw e at (k.nodes i).within) f (omega arith)
+        is_no_longer s w l ≡ false → IsLogPrefix l (announced_log ps w) → IsLogPrefix s.log l
+    by_length v e (inl lt) t f = prefixes_in_order s.log l (announced_log ps w) (rw e at (k.nodes i).within) f
+        (omega arith)
     by_length v e (inr ge) t f =
         let up : s.normal ≡ s.view = omega (arith, (k.nodes i).order, v, e) in
         let here : w ≡ s.view = omega (arith, up, e) in

@@ -27,7 +27,7 @@ use Rattle.desk_world.specs.Agreement.{LatestReplyKept, IsReplyAt, RepliesAgree}
 use Rattle.desk_log.proofs.Prefixes.{prefix_trans, length-prefix, prefix_take}
 use Rattle.desk_world.proofs.FirstEntries.{one_prefix, take-same}
 use Rattle.desk_world.specs.Views.{IsChosen}
-use Rattle.desk_world.proofs.ViewLog.{has_begun, told_log}
+use Rattle.desk_world.proofs.ViewLog.{has_begun, announced_log}
 use Rattle.desk_log.proofs.Rising.{rising_prefix, numbers_stand_once}
 use Rattle.desk_world.proofs.CommittedAnswers.{IsReplyAt-later}
 use Rattle.desk_world.proofs.NodeInvariants.{NodeInvariant}
@@ -38,7 +38,8 @@ use Rattle.desk_types.specs.Group.{IsGroup}
 
 pub world_invariant : (domain : List ℕ) (n : ℕ) (events : List WorldEvent) → IsGroup n →
     WorldInvariant domain n (world domain n events)
-world_invariant domain n events group = (next_run domain n (first_world n) group (start_invariant domain n) events).kept
+world_invariant domain n events group =
+    (next_run domain n (first_world n) group (start_invariant domain n) events).preserved
 
 pub world_next : (domain : List ℕ) (n : ℕ) (early late : List WorldEvent) → IsGroup n →
     Next domain n (world domain n early) (world domain n (early ++ late))
@@ -48,23 +49,24 @@ world_next domain n early late group =
 -- What a node has committed stands in the log of its normal view, and of each later view that has started.
 committed_prefix : (domain : List ℕ) (n : ℕ) (w : World) (i view : ℕ) → IsGroup n → WorldInvariant domain n w →
     (node_of_world w i).saved.normal ≤ view → has_begun (messages w.packets) view ≡ true →
-    IsLogPrefix (committed_log w i) (told_log (messages w.packets) view)
+    IsLogPrefix (committed_log w i) (announced_log (messages w.packets) view)
 committed_prefix domain n w i view group k le b =
     let s : SavedValue = (node_of_world w i).saved in
-    let own : NodeInvariant n (messages w.packets) i s = k.kept.nodes i in
-    backed_prefix n (messages w.packets) (node_of_world w) group k.kept s.normal s.commit s.log own.begun own.within
+    let own : NodeInvariant n (messages w.packets) i s = k.preserved.nodes i in
+    backed_prefix n (messages w.packets) (node_of_world w) group k.preserved s.normal s.commit s.log own.begun
+    own.within
     own.within_log own.backed view le b
 
 -- in one world
 agree_now : (domain : List ℕ) (n : ℕ) (w : World) (i j : ℕ) → IsGroup n → WorldInvariant domain n w →
     IsLogPrefix (committed_log w i) (committed_log w j) ⊎ IsLogPrefix (committed_log w j) (committed_log w i)
 agree_now domain n w i j group k = ⊎_elim
-    (λ l. one_prefix _ _ (told_log (messages w.packets) (node_of_world w j).saved.normal)
-    (committed_prefix domain n w i (node_of_world w j).saved.normal group k (omega arith) (k.kept.nodes j).begun)
-    (committed_prefix domain n w j (node_of_world w j).saved.normal group k (omega arith) (k.kept.nodes j).begun))
-    (λ l. one_prefix _ _ (told_log (messages w.packets) (node_of_world w i).saved.normal)
-    (committed_prefix domain n w i (node_of_world w i).saved.normal group k (omega arith) (k.kept.nodes i).begun)
-    (committed_prefix domain n w j (node_of_world w i).saved.normal group k l (k.kept.nodes i).begun))
+    (λ l. one_prefix _ _ (announced_log (messages w.packets) (node_of_world w j).saved.normal)
+    (committed_prefix domain n w i (node_of_world w j).saved.normal group k (omega arith) (k.preserved.nodes j).begun)
+    (committed_prefix domain n w j (node_of_world w j).saved.normal group k (omega arith) (k.preserved.nodes j).begun))
+    (λ l. one_prefix _ _ (announced_log (messages w.packets) (node_of_world w i).saved.normal)
+    (committed_prefix domain n w i (node_of_world w i).saved.normal group k (omega arith) (k.preserved.nodes i).begun)
+    (committed_prefix domain n w j (node_of_world w i).saved.normal group k l (k.preserved.nodes i).begun))
     (cases_lt (node_of_world w i).saved.normal (node_of_world w j).saved.normal)
 
 pub committed_stays : CommittedStays
@@ -79,7 +81,7 @@ committed_agree domain n early late i j group =
     ⊎_elim
     (λ f. inl (prefix_trans (committed_log now i) (committed_log later i) (committed_log later j) stays f))
     (λ f. one_prefix (committed_log now i) (committed_log later j) (committed_log later i) stays f)
-    (agree_now domain n later i j group (world_next domain n early late group).kept)
+    (agree_now domain n later i j group (world_next domain n early late group).preserved)
 
 pub committed_is_chosen : CommittedIsChosen
 committed_is_chosen domain n events i group = by_commit own.backed.chosen
@@ -97,7 +99,7 @@ committed_is_chosen domain n events i group = by_commit own.backed.chosen
     k = world_invariant domain n events group
 
     own : NodeInvariant n ps i s
-    own = k.kept.nodes i
+    own = k.preserved.nodes i
 
     by_commit : (s.commit ≡ 0) ⊎ ((x : ℕ) × (x ≤ s.normal) × IsChosen n ps x s.commit) →
         (committed_log w i ≡ []) ⊎ IsAcknowledged n w i
@@ -109,8 +111,8 @@ committed_is_chosen domain n events i group = by_commit own.backed.chosen
           within = c.1;
           chosen = rw long c.2;
           prefix = subst (λ (x : List Entry). IsLogPrefix (committed_log w i) x)
-              (sym (log_is n ps (node_of_world w) k.kept c.0))
-              (chosen_prefix n ps (node_of_world w) group k.kept s.normal s.commit s.log own.begun own.within
+              (sym (log_is n ps (node_of_world w) k.preserved c.0))
+              (chosen_prefix n ps (node_of_world w) group k.preserved s.normal s.commit s.log own.begun own.within
               own.within_log
               c.0 c.1 c.2);
         })
@@ -137,11 +139,11 @@ committed_within : (domain : List ℕ) (n : ℕ) (w : World) (i : ℕ) → World
     length (committed_log w i) ≤ LOG_ENTRIES
 committed_within domain n w i k =
     let s : SavedValue = (node_of_world w i).saved in
-    let own : NodeInvariant n (messages w.packets) i s = k.kept.nodes i in
+    let own : NodeInvariant n (messages w.packets) i s = k.preserved.nodes i in
     omega (
       arith,
-      length-prefix s.log (told_log (messages w.packets) s.normal) own.within,
-      (k.kept.views s.normal own.begun).within,
+      length-prefix s.log (announced_log (messages w.packets) s.normal) own.within,
+      (k.preserved.views s.normal own.begun).within,
       length-take s.commit s.log,
     )
 
@@ -177,10 +179,10 @@ identifiers_stay domain n early late i j group k a b =
 rising_now : (domain : List ℕ) (n : ℕ) (w : World) (i : ℕ) → WorldInvariant domain n w → IsRising (committed_log w i)
 rising_now domain n w i k =
     let s : SavedValue = (node_of_world w i).saved in
-    let own : NodeInvariant n (messages w.packets) i s = k.kept.nodes i in
-    rising_prefix (committed_log w i) (told_log (messages w.packets) s.normal)
-    (prefix_trans (committed_log w i) s.log (told_log (messages w.packets) s.normal) (prefix_take s.commit s.log)
-    own.within) (k.kept.views s.normal own.begun).rising
+    let own : NodeInvariant n (messages w.packets) i s = k.preserved.nodes i in
+    rising_prefix (committed_log w i) (announced_log (messages w.packets) s.normal)
+    (prefix_trans (committed_log w i) s.log (announced_log (messages w.packets) s.normal) (prefix_take s.commit s.log)
+    own.within) (k.preserved.views s.normal own.begun).rising
 
 pub committed_is_rising : CommittedIsRising
 committed_is_rising domain n events i group =

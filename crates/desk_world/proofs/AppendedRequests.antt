@@ -10,7 +10,7 @@ use Rattle.desk_types.specs.declared.refusal.Refusal.{Refusal}
 use Rattle.desk_log.specs.Entries.{IsLogPrefix}
 use Rattle.desk_log.specs.SavedValue.{SavedValue, with_entry}
 use Rattle.desk_world.specs.World.{messages}
-use Rattle.desk_world.proofs.ViewLog.{has_begun, told_start, told_log}
+use Rattle.desk_world.proofs.ViewLog.{has_begun, announced_start, announced_log}
 use Rattle.desk_log.specs.Laws.{IsNewNumber}
 use Rattle.desk_log.proofs.Prefixes.{prefix_refl, prefix_trans, prefix_append, take_take-prefix}
 use Rattle.desk_log.proofs.Places.{entry_at-last}
@@ -73,7 +73,7 @@ good_append domain n ps at i e group k t new room = record {
     within_log = omega (arith, own.within_log, pushed);
     begun = (view_grows ps qs s.normal).begun own.begun;
     starts = rw ((view_grows ps qs s.normal).start own.begun)
-        (prefix_trans (told_start ps s.normal) s.log l own.starts longer);
+        (prefix_trans (announced_start ps s.normal) s.log l own.starts longer);
     within = rw normal (prefix_refl l);
     whole = λ _. sym normal;
     backed = IsBacked-more n ps qs s.normal s.commit own.backed;
@@ -121,11 +121,12 @@ good_append domain n ps at i e group k t new room = record {
     started : has_begun ps v ≡ true
     started = rw lead.0 at own.begun
 
-    whole : s.log ≡ told_log ps v
-    whole = own.whole (rw lead.0 lead.1) ∙ ap (told_log ps) lead.0
+    whole : s.log ≡ announced_log ps v
+    whole = own.whole (rw lead.0 lead.1) ∙ ap (announced_log ps) lead.0
 
     views : Longer ps qs v e
-    views = rw (← whole) at (lengthens i n ps v s.commit e (PrepareOk i v (length (told_log ps v) + 1)) group started
+    views = rw (← whole) at (lengthens i n ps v s.commit e (PrepareOk i v (length (announced_log ps v) + 1)) group
+        started
         refl)
 
     longer : IsLogPrefix s.log l
@@ -134,11 +135,11 @@ good_append domain n ps at i e group k t new room = record {
     pushed : length l ≡ m
     pushed = length_push s.log e
 
-    here : told_log (ps ++ qs) v ≡ l
+    here : announced_log (ps ++ qs) v ≡ l
     here = ap (λ x. x.log) views.here ∙ ap (λ x. x ++ e ∷ []) (sym whole)
 
-    normal : told_log (ps ++ qs) s.normal ≡ l
-    normal = ap (told_log (ps ++ qs)) lead.0 ∙ here
+    normal : announced_log (ps ++ qs) s.normal ≡ l
+    normal = ap (announced_log (ps ++ qs)) lead.0 ∙ here
 
     began : has_begun (ps ++ qs) v ≡ true
     began = (view_grows ps qs v).begun started
@@ -162,8 +163,8 @@ good_append domain n ps at i e group k t new room = record {
     ack : has_acked qs v m i ≡ true
     ack = or_left (acks v m i ok) (has_acked (messages (to_others i n prepare)) v m i) (own_ack i v m m (omega arith))
 
-    acked : has_acked qs v (length (told_log ps v) + 1) (primary n v) ≡ true
-    acked = ap (has_acked qs v (length (told_log ps v) + 1)) (sym lead.1)
+    acked : has_acked qs v (length (announced_log ps v) + 1) (primary n v) ≡ true
+    acked = ap (has_acked qs v (length (announced_log ps v) + 1)) (sym lead.1)
         ∙ (ap (λ x. has_acked qs v (length x + 1) i) (sym whole) ∙ ack)
 
     before : (w : ℕ) → has_begun (ps ++ qs) w ≡ true → (w ≡ v) ⊎ (w ≢ v) → has_begun ps w ≡ true

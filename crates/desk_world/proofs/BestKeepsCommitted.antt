@@ -23,7 +23,7 @@ use Rattle.desk_world.proofs.NodeInvariants.{Nodes, NodeInvariant, OfferHolds}
 use Rattle.desk_world.proofs.Invariant.{GroupInvariant}
 use Rattle.desk_world.proofs.Packets.{SentOk, has_acked-sent}
 use Rattle.desk_world.proofs.ChosenPrefixes.{survives, chosen_within, chosen_prefix}
-use Rattle.desk_world.proofs.ViewLog.{told_start, told_log}
+use Rattle.desk_world.proofs.ViewLog.{announced_start, announced_log}
 
 -- A log that has the first entries of another keeps them.
 pub keeps_from : (s : SavedValue) (l : List Entry) → s.commit ≤ length s.log → IsLogPrefix (take s.commit s.log) l →
@@ -38,7 +38,7 @@ keeps_from s l within f =
 chosen_stands : (n : ℕ) (ps : List Message) (at : Nodes) → IsGroup n → GroupInvariant n ps at → (v : ℕ) →
     (offers : List (Option Offer)) → OffersSent ps v n offers →
     faults n < tally n (λ j. has_offer (slice_index_or offers j None)) → (o : Offer) → BestOf offers n o → (x c : ℕ) →
-    x < v → IsChosen n ps x c → IsLogPrefix (take c (told_log ps x)) o.log
+    x < v → IsChosen n ps x c → IsLogPrefix (take c (announced_log ps x)) o.log
 chosen_stands n ps at group k v offers sent majority o b x c lt chosen =
     by_offer (k.offers_all shared.0 x ok.0 v a.normal a.commit a.log ok.2 (sent shared.0 a shared.1 offered.1) lt)
     (b.all shared.0 a shared.1 offered.1)
@@ -59,20 +59,22 @@ chosen_stands n ps at group k v offers sent majority o b x c lt chosen =
     given : OfferHolds n ps at b.node v o.normal o.commit o.log
     given = k.packets (packet_of v b.node o) (sent b.node o b.small b.is)
 
-    older : x < o.normal → IsLogPrefix (take c (told_log ps x)) o.log
-    older l = prefix_trans _ (told_start ps o.normal) _ (survives n ps at group k o.normal x c l given.begun chosen)
+    older : x < o.normal → IsLogPrefix (take c (announced_log ps x)) o.log
+    older l = prefix_trans _ (announced_start ps o.normal) _
+        (survives n ps at group k o.normal x c l given.begun chosen)
         given.starts
 
     by_offer : (x < a.normal) ⊎ ((x ≡ a.normal) × (ok.0 ≤ length a.log)) → NoBetter a o →
-        IsLogPrefix (take c (told_log ps x)) o.log
+        IsLogPrefix (take c (announced_log ps x)) o.log
     by_offer (inl p) (inl q) = older (omega arith)
     by_offer (inl p) (inr q) = older (omega arith)
     by_offer (inr p) (inl q) = older (omega arith)
     by_offer (inr p) (inr q) =
         let same : o.normal ≡ x = omega arith in
-        let within : IsLogPrefix o.log (told_log ps x) = rw same at given.within in
-        prefixes_in_order (take c (told_log ps x)) o.log (told_log ps x) (prefix_take c (told_log ps x)) within
-        (omega (arith, length-take c (told_log ps x), ok.1))
+        let within : IsLogPrefix o.log (announced_log ps x) = rw same at given.within in
+        prefixes_in_order (take c (announced_log ps x)) o.log (announced_log ps x)
+        (prefix_take c (announced_log ps x)) within
+        (omega (arith, length-take c (announced_log ps x), ok.1))
 
 -- So the primary's committed entries are the first of the best log.
 pub best_keeps : (n : ℕ) (ps : List Message) (at : Nodes) (i : ℕ) → IsGroup n → GroupInvariant n ps at → (v : ℕ) →
@@ -94,10 +96,11 @@ best_keeps n ps at i group k v changing offers sent majority o b =
     by_chosen (inr ch) =
         let c : ℕ = s.commit in
         let x : ℕ = ch.0 in
-        let first : IsLogPrefix (take c s.log) (told_log ps x) =
+        let first : IsLogPrefix (take c s.log) (announced_log ps x) =
         chosen_prefix n ps at group k s.normal c s.log own.begun own.within own.within_log x ch.1 ch.2 in
-        let there : IsLogPrefix (take c s.log) (take c (told_log ps x)) =
-        prefixes_in_order (take c s.log) (take c (told_log ps x)) (told_log ps x) first (prefix_take c (told_log ps x))
-        (omega (arith, length-take c s.log, length-take c (told_log ps x), chosen_within n ps at x c k ch.2)) in
-        prefix_trans _ (take c (told_log ps x)) _ there
+        let there : IsLogPrefix (take c s.log) (take c (announced_log ps x)) =
+        prefixes_in_order (take c s.log) (take c (announced_log ps x)) (announced_log ps x) first
+        (prefix_take c (announced_log ps x))
+        (omega (arith, length-take c s.log, length-take c (announced_log ps x), chosen_within n ps at x c k ch.2)) in
+        prefix_trans _ (take c (announced_log ps x)) _ there
         (chosen_stands n ps at group k v offers sent majority o b x c (omega (arith, ch.1, changing)) ch.2)

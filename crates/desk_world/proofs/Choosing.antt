@@ -193,7 +193,7 @@ collect_one domain n up base v group ahead old m t from on goes ready =
     small = mod-lt v (omega (arith, group.least))
 
     inv : WorldInvariant domain n t
-    inv = goes.kept
+    inv = goes.preserved
 
     s : SavedValue
     s = (node_of_world base i).saved
@@ -220,9 +220,9 @@ collect_one domain n up base v group ahead old m t from on goes ready =
     c = on_packet i n (in_view v s) (heard_of n (max v v) rs) p
 
     collects : Collects n i v s p offers c
-    collects = offer_collects n ps (node_of_world t) i v s group inv.kept small refl
+    collects = offer_collects n ps (node_of_world t) i v s group inv.preserved small refl
         (ready.saved i small ahead.primary_up)
-        (omega (arith, (old.kept.nodes i).order, ahead.later i)) m given.normal given.commit given.log from sent
+        (omega (arith, (old.preserved.nodes i).order, ahead.later i)) m given.normal given.commit given.log from sent
 
     r : Reach domain n up t (ChangesNode domain t i c)
     r = reach_packet domain n up t group inv i small ahead.primary_up p (ready.offered m from on) (in_view v s)
@@ -233,7 +233,7 @@ collect_one domain n up base v group ahead old m t from on goes ready =
     others j l on_j ne = ap (λ (x : State). x.saved) (r.holds.there j ne) ∙ ready.saved j l on_j
 
     all : OffersSent ps v n offers
-    all = offers_sent n v ps (rs ++ p ∷ []) (taken_with ps rs p (inv.kept.taken i) sent)
+    all = offers_sent n v ps (rs ++ p ∷ []) (taken_with ps rs p (inv.preserved.taken i) sent)
 
     -- A node that is not up stayed below the view, and has not offered for it.
     offers_up : (j : ℕ) (o : Offer) → j < n → slice_index_or offers j None ≡ Some o → (b : Bool) → up j ≡ b →
@@ -241,7 +241,7 @@ collect_one domain n up base v group ahead old m t from on goes ready =
     offers_up j o l given true e = e
     offers_up j o l given false e =
         let h : OfferHolds n ps (node_of_world t) j v o.normal o.commit o.log =
-        inv.kept.packets (packet_of v j o) (all j o l given) in
+        inv.preserved.packets (packet_of v j o) (all j o l given) in
         let same : (node_of_world t j).saved.view ≡ (node_of_world base j).saved.view =
         ap (λ (x : State). x.saved.view) (goes.down j e) in
         absurd (omega (arith, h.view_is, same, ahead.later j))
@@ -252,18 +252,18 @@ collect_one domain n up base v group ahead old m t from on goes ready =
         × ((node_of_world r.later i).received ≡ rs ++ p ∷ []))
         ⊎ HasStarted n up base v r.later
     by_result (inl w) =
-        let kept : AreReady n up base v r.later = record {
+        let preserved : AreReady n up base v r.later = record {
           saved = λ j l on_j. ⊎_elim (λ e. rw e (r.holds.saved ∙ w.1)) (λ ne. others j l on_j ne) (cases_eq j i);
           offered = λ j l on_j. r.goes.packets (i, offer_of base v j) (ready.offered j l on_j);
         } in
-        inl (w.0, kept, r.holds.received ∙ ap (λ x. rs ++ x) w.2)
+        inl (w.0, preserved, r.holds.received ∙ ap (λ x. rs ++ x) w.2)
     by_result (inr b) =
         let on_b : up b.node ≡ true = offers_up b.node b.offer b.small b.given (up b.node) refl in
         let own : SavedValue = (node_of_world base b.node).saved in
         let mine : Contains ps (packet_of v b.node b.offer) = all b.node b.offer b.small b.given in
         let known : Contains ps (offer_of base v b.node) =
         messages_at t.packets (i, offer_of base v b.node) (ready.offered b.node b.small on_b) in
-        let log : b.offer.log ≡ own.log = (inv.kept.one_offer b.node v b.offer.normal b.offer.commit own.normal
+        let log : b.offer.log ≡ own.log = (inv.preserved.one_offer b.node v b.offer.normal b.offer.commit own.normal
         own.commit b.offer.log own.log mine known).2 in
         inr (record {
           node = b.node;
@@ -304,7 +304,7 @@ gather_next domain n up base v group ahead old m t from on goes p = by_result p.
 
     by_result : (AreReady n up base v t × ((j : ℕ) → j < m → up j ≡ true → Contains rs (offer_of base v j)))
         ⊎ HasStarted n up base v t → Reach domain n up t (HasGathered n up base v (suc m))
-    by_result (inr b) = reach_here domain n up t (HasGathered n up base v (suc m)) goes.kept
+    by_result (inr b) = reach_here domain n up t (HasGathered n up base v (suc m)) goes.preserved
         (record { result = inr b })
     by_result (inl w) =
         let r : Reach domain n up t (HasCollected n up base v (rs ++ offer_of base v m ∷ [])) =
@@ -354,7 +354,7 @@ start_last domain n up base v group ahead old t goes p = by_result p.result
 
     by_result : (AreReady n up base v t × ((j : ℕ) → j < n → up j ≡ true → Contains rs (offer_of base v j)))
         ⊎ HasStarted n up base v t → Reach domain n up t (HasStarted n up base v)
-    by_result (inr b) = reach_here domain n up t (HasStarted n up base v) goes.kept b
+    by_result (inr b) = reach_here domain n up t (HasStarted n up base v) goes.preserved b
     by_result (inl w) =
         let r : Reach domain n up t (HasCollected n up base v (rs ++ offer_of base v i ∷ [])) =
         collect_one domain n up base v group ahead old i t small ahead.primary_up goes w.0 in
@@ -381,7 +381,7 @@ start_view domain n up base v group ahead old u goes p =
           (λ w. inl (w.0, λ j l on. w.1 j (omega (arith, l, not_down up m j off on)) on))
           (λ b. inr b)
           q.result;
-    }) goes.kept
+    }) goes.preserved
     (record { result = inl (record { saved = p.saved; offered = p.offered }, λ j l on. absurd (omega (arith, l))) })
     n (omega arith))
     (λ t g q. start_last domain n up base v group ahead old t (goes_on domain n up base u t goes g) q)

@@ -67,14 +67,14 @@ safe_resend domain n ps at i heard k =
 
 -- what a step gives, whatever else happened
 pub record SafeStep (domain : List ℕ) (n : ℕ) (ps : List Message) (at : Nodes) (i : ℕ) (s : NodeStep) : Type 0 where
-  pub kept : (later : Nodes) → DiffersAt at later i s.node → GroupInvariant n (ps ++ messages s.packets) later
+  pub preserved : (later : Nodes) → DiffersAt at later i s.node → GroupInvariant n (ps ++ messages s.packets) later
   pub grows : SavedLater (at i).saved s.node.saved
   pub answered : AreCommittedAnswers domain s.node.saved s.answers
 
 change_step : (domain : List ℕ) (n : ℕ) (ps : List Message) (at : Nodes) (i : ℕ) (received : List Message)
     (c : Change) →
     Safe domain n ps at i received c → SafeStep domain n ps at i (step_of_change domain received c)
-change_step domain n ps at i received c s = record { kept = s.kept; grows = s.grows; answered = s.answered }
+change_step domain n ps at i received c s = record { preserved = s.preserved; grows = s.grows; answered = s.answered }
 
 safe_restart : (domain : List ℕ) (n : ℕ) (ps : List Message) (at : Nodes) (i : ℕ) → GroupInvariant n ps at →
     Safe domain n ps at i [] (nothing (at i).saved)

@@ -30,7 +30,7 @@ use Rattle.desk_world.proofs.LaterWorlds.{not_down, Reach, ChangesNode, reach_he
 use Rattle.desk_world.proofs.LaterWorlds.{reach_request}
 use Rattle.desk_world.proofs.WorldInvariants.{WorldInvariant}
 use Rattle.desk_world.proofs.ChosenPrefixes.{backed_prefix}
-use Rattle.desk_world.proofs.ViewLog.{told_log}
+use Rattle.desk_world.proofs.ViewLog.{announced_log}
 
 -- What a node has committed stands in the log of the view that its primary has.
 primary_keeps : (n : ℕ) (ps : List Message) (at : Nodes) (j v : ℕ) (l : List Entry) (c : ℕ) (s : SavedValue) →
@@ -39,8 +39,8 @@ primary_keeps : (n : ℕ) (ps : List Message) (at : Nodes) (j v : ℕ) (l : List
 primary_keeps n ps at j v l c s group k e f =
     let own : NodeInvariant n ps (primary n v) (normal_in v l c) = rw e at (k.nodes (primary n v)) in
     let other : NodeInvariant n ps j (in_view v s) = rw f at (k.nodes j) in
-    let whole : l ≡ told_log ps v = own.whole refl in
-    let there : IsLogPrefix (take s.commit s.log) (told_log ps v) =
+    let whole : l ≡ announced_log ps v = own.whole refl in
+    let there : IsLogPrefix (take s.commit s.log) (announced_log ps v) =
     backed_prefix n ps at group k s.normal s.commit s.log other.begun other.within other.within_log other.backed v
     other.order own.begun in
     keeps_from (in_view v s) l other.within_log (rw (← whole) at there)
@@ -100,15 +100,15 @@ adopt_one domain n up base v l c group ahead old k t small on ne inv p =
     let from : i < n = mod-lt v (omega (arith, group.least)) in
     let mine : (node_of_world t k).saved ≡ in_view v s = p.rest k (omega arith) small on ne in
     let keeps : keeps_committed (in_view v s) l ≡ true =
-    primary_keeps n (messages t.packets) (node_of_world t) k v l c s group inv.kept p.saved mine in
+    primary_keeps n (messages t.packets) (node_of_world t) k v l c s group inv.preserved p.saved mine in
     let heard : Heard = heard_of n (max v v) (node_of_world t k).received in
     let change : Change = on_packet k n (in_view v s) heard (StartView i v c l) in
     let adopts : IsNormalIn v l change.saved = start_adopts n i k v c l s heard from refl ne
-    (omega (arith, (old.kept.nodes k).order, ahead.later k)) keeps in
-    let told : Contains change.packets (i, PrepareOk k v (length l)) =
+    (omega (arith, (old.preserved.nodes k).order, ahead.later k)) keeps in
+    let announced : Contains change.packets (i, PrepareOk k v (length l)) =
     start_acknowledged n i k v c l s heard from refl ne (omega (
       arith,
-      (old.kept.nodes k).order,
+      (old.preserved.nodes k).order,
       ahead.later k,
     )) keeps in
     let r : Reach domain n up t (ChangesNode domain t k change) =
@@ -132,7 +132,7 @@ adopt_one domain n up base v l c group ahead old k t small on ne inv p =
             ∙ p.rest j (omega (arith, ge)) low on_j other;
         sent = λ j low other. r.goes.packets (j, StartView i v c l) (p.sent j low other);
         acked = λ j lt low on_j other. ⊎_elim
-            (λ e. rw e (r.holds.sent (i, PrepareOk k v (length l)) told))
+            (λ e. rw e (r.holds.sent (i, PrepareOk k v (length l)) announced))
             (λ d. r.goes.packets (i, PrepareOk j v (length l)) (p.acked j (omega (arith, lt, d)) low on_j other))
             (cases_eq j k);
       };
@@ -160,7 +160,7 @@ pub adopt_all : (domain : List ℕ) (n : ℕ) (up : ℕ → Bool) (base : World)
 adopt_all domain n up base v group ahead old t inv b =
     let l : List Entry = (node_of_world base b.node).saved.log in
     reach_all domain n up t (HaveAdopted n up base v l b.commit)
-    (λ k u small on g p. adopt_next domain n up base v l b.commit group ahead old k u small on g.kept p)
+    (λ k u small on g p. adopt_next domain n up base v l b.commit group ahead old k u small on g.preserved p)
     (λ k u off p. record {
       saved = p.saved;
       adopted = λ j lt low on ne. p.adopted j (omega (arith, lt, not_down up k j off on)) low on ne;
@@ -212,7 +212,7 @@ pub append_entry : (domain : List ℕ) (n : ℕ) (up : ℕ → Bool) (base : Wor
 append_entry domain n up base v l c e group ahead t inv admitted p =
     let i : ℕ = primary n v in
     let small : i < n = mod-lt v (omega (arith, group.least)) in
-    let own : NodeInvariant n (messages t.packets) i (normal_in v l c) = rw p.saved at (inv.kept.nodes i) in
+    let own : NodeInvariant n (messages t.packets) i (normal_in v l c) = rw p.saved at (inv.preserved.nodes i) in
     let change : Change = on_request i n (normal_in v l c) e in
     let appends : Appends n i v c l e change = request_appends n i v c l e refl admitted in
     let r : Reach domain n up t (ChangesNode domain t i change) =
@@ -260,7 +260,7 @@ acknowledge_one domain n up v l e c group k t small on ne inv p =
     let r : Reach domain n up t (ChangesNode domain t k change) =
     reach_packet domain n up t group inv k small on prepare (p.sent k small ne)
     (normal_in v l mine.commit) mine.saved in
-    let told : Contains r.later.packets (i, PrepareOk k v (length l + 1)) =
+    let announced : Contains r.later.packets (i, PrepareOk k v (length l + 1)) =
     r.holds.sent (i, PrepareOk k v (length l + 1)) (prepare_acknowledged n i k v c mine.commit l e heard from refl ne)
     in
     record {
@@ -277,7 +277,7 @@ acknowledge_one domain n up v l e c group k t small on ne inv p =
             };
         sent = λ j low other. r.goes.packets (j, prepare) (p.sent j low other);
         acknowledged = λ j lt low on_j other. ⊎_elim
-            (λ q. rw q told)
+            (λ q. rw q announced)
             (λ d. r.goes.packets (i, PrepareOk j v (length l + 1))
             (p.acknowledged j (omega (arith, lt, d)) low on_j other))
             (cases_eq j k);
@@ -304,7 +304,7 @@ pub acknowledge_all : (domain : List ℕ) (n : ℕ) (up : ℕ → Bool) (v : ℕ
     Reach domain n up t (HaveAcknowledged n up v l e c n)
 acknowledge_all domain n up v l e c group t inv p =
     reach_all domain n up t (HaveAcknowledged n up v l e c)
-    (λ k u small on g q. acknowledge_next domain n up v l e c group k u small on g.kept q)
+    (λ k u small on g q. acknowledge_next domain n up v l e c group k u small on g.preserved q)
     (λ k u off q. record {
       saved = q.saved;
       within = q.within;

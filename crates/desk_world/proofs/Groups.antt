@@ -143,13 +143,13 @@ acts_at domain n i g old event new packets answers h does same w st = by_node (s
         }
 
 -- The same, of a group that keeps the packets.
-pub acts_kept : (domain : List ℕ) (n i : ℕ) (g : Group) (old : NodeValue) (event : Event) (new : NodeValue)
+pub acts_preserved : (domain : List ℕ) (n i : ℕ) (g : Group) (old : NodeValue) (event : Event) (new : NodeValue)
     (packets : List (ℕ × Message)) (answers : List Outcome) (h : Group) (o : OutputValue) →
     slice_get g.nodes i ≡ Some old → DoesStep old event new packets answers → IsSameNode old new →
     (h, o) ≡ with_step (record { nodes = slice_set g.nodes i new; packets = g.packets }) old.id packets answers →
     ActsAt domain n g i event h o
-acts_kept domain n i g old event new packets answers h o there does same kept =
-    subst (λ (x : Group × OutputValue). ActsAt domain n g i event x.0 x.1) (sym kept)
+acts_preserved domain n i g old event new packets answers h o there does same preserved =
+    subst (λ (x : Group × OutputValue). ActsAt domain n g i event x.0 x.1) (sym preserved)
     (acts_at domain n i g old event new packets answers there does same)
 
 none_get : (domain : List ℕ) (vs : List NodeValue) (ss : List State) (n k i : ℕ) → AreNodes domain n k vs ss →

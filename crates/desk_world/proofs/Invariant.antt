@@ -14,7 +14,7 @@ use Rattle.desk_world.specs.World.{messages}
 use Rattle.desk_log.proofs.Prefixes.{prefix_refl, prefix_trans}
 use Rattle.desk_world.proofs.Packets.{IsBacked-more}
 use Rattle.desk_world.proofs.Views.{view_grows}
-use Rattle.desk_world.proofs.ViewLog.{has_begun, told_start, told_log}
+use Rattle.desk_world.proofs.ViewLog.{has_begun, announced_start, announced_log}
 use Rattle.desk_world.proofs.NodeInvariants.{Nodes, NodeInvariant, MessageHolds, OkHolds, OfferHolds, OfferStill}
 use Rattle.desk_world.proofs.NodeInvariants.{SavedLater}
 use Rattle.desk_world.proofs.NodeInvariants.{NodesLater, MessageHolds-later}
@@ -36,19 +36,19 @@ pub record StartsWithBest (n : ℕ) (ps : List Message) (w : ℕ) : Type 0 where
   pub from_view : ℕ
   pub older : from_view < w
   pub from_begun : has_begun ps from_view ≡ true
-  pub keeps : IsLogPrefix (told_start ps from_view) (told_start ps w)
-  pub within : IsLogPrefix (told_start ps w) (told_log ps from_view)
+  pub keeps : IsLogPrefix (announced_start ps from_view) (announced_start ps w)
+  pub within : IsLogPrefix (announced_start ps w) (announced_log ps from_view)
   pub voters : ℕ → Bool
   pub quorum : faults n < tally n voters
-  pub best : (j : ℕ) → j < n → voters j ≡ true → OffersNoBetter ps w j from_view (length (told_start ps w))
+  pub best : (j : ℕ) → j < n → voters j ≡ true → OffersNoBetter ps w j from_view (length (announced_start ps w))
 
 -- what holds of each view that has started
 pub record ViewInvariant (n : ℕ) (ps : List Message) (w : ℕ) : Type 0 where
   pub made : 0 < w → StartsWithBest n ps w
   -- Its primary acknowledged each place of its log.
-  pub own : (m : ℕ) → 0 < m → m ≤ length (told_log ps w) → has_acked ps w m (primary n w) ≡ true
-  pub rising : IsRising (told_log ps w)
-  pub within : length (told_log ps w) ≤ LOG_ENTRIES
+  pub own : (m : ℕ) → 0 < m → m ≤ length (announced_log ps w) → has_acked ps w m (primary n w) ≡ true
+  pub rising : IsRising (announced_log ps w)
+  pub within : length (announced_log ps w) ≤ LOG_ENTRIES
 
 pub record GroupInvariant (n : ℕ) (ps : List Message) (at : Nodes) : Type 0 where
   pub views : (w : ℕ) → has_begun ps w ≡ true → ViewInvariant n ps w
@@ -78,7 +78,8 @@ OffersState s w u c l = (w ≡ s.view) × (u ≡ s.normal) × (c ≡ s.commit) �
 pub record KeepsInvariant (domain : List ℕ) (n : ℕ) (ps : List Message) (at : Nodes) (i : ℕ)
     (s : NodeStep) : Type 0 where
   -- A view's log changes at its primary alone.
-  pub frame : (w : ℕ) → has_begun ps w ≡ true → i ≢ primary n w → told_log (ps ++ messages s.packets) w ≡ told_log ps w
+  pub frame : (w : ℕ) → has_begun ps w ≡ true → i ≢ primary n w →
+      announced_log (ps ++ messages s.packets) w ≡ announced_log ps w
   pub views : (w : ℕ) → has_begun (ps ++ messages s.packets) w ≡ true → ViewInvariant n (ps ++ messages s.packets) w
   pub leaders : (w : ℕ) → has_begun (ps ++ messages s.packets) w ≡ true →
       (has_begun ps w ≡ true) ⊎ ((primary n w ≡ i) × (w ≤ s.node.saved.normal))
@@ -113,14 +114,15 @@ moved_later domain n ps at later i s mv d j = by_node (cases_eq j i)
 
 -- what holds of a node that did nothing
 pub node_later : (n : ℕ) (ps qs : List Message) (j : ℕ) (s : SavedValue) →
-    (has_begun ps s.normal ≡ true → j ≡ primary n s.normal → told_log (ps ++ qs) s.normal ≡ told_log ps s.normal) →
+    (has_begun ps s.normal ≡ true → j ≡ primary n s.normal →
+    announced_log (ps ++ qs) s.normal ≡ announced_log ps s.normal) →
     NodeInvariant n ps j s → NodeInvariant n (ps ++ qs) j s
 node_later n ps qs j s frame k = record {
   order = k.order;
   within_log = k.within_log;
   begun = (view_grows ps qs s.normal).begun k.begun;
   starts = rw ((view_grows ps qs s.normal).start k.begun) k.starts;
-  within = prefix_trans s.log (told_log ps s.normal) (told_log (ps ++ qs) s.normal) k.within
+  within = prefix_trans s.log (announced_log ps s.normal) (announced_log (ps ++ qs) s.normal) k.within
       ((view_grows ps qs s.normal).log k.begun);
   whole = λ e. k.whole e ∙ sym (frame k.begun e);
   backed = IsBacked-more n ps qs s.normal s.commit k.backed;

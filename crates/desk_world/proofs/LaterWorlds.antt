@@ -36,7 +36,7 @@ pub record LeadsTo (domain : List ℕ) (n : ℕ) (up : ℕ → Bool) (w later : 
   pub more : List WorldEvent
   pub at_up : AreAtUp domain n up w more
   pub leads : world_from domain n w more ≡ later
-  pub kept : WorldInvariant domain n later
+  pub preserved : WorldInvariant domain n later
   pub packets : (s : ℕ × Message) → Contains w.packets s → Contains later.packets s
   pub added : List (ℕ × Outcome)
   pub answers : later.answers ≡ w.answers ++ added
@@ -49,7 +49,7 @@ goes_nowhere domain n up w k = record {
   more = [];
   at_up = tt;
   leads = refl;
-  kept = k;
+  preserved = k;
   packets = λ s c. c;
   added = [];
   answers = sym (append-nil w.answers);
@@ -68,7 +68,7 @@ goes_on domain n up w u t a b = record {
   at_up = at_up_append domain n up w a.more b.more a.at_up (rw a.leads b.at_up);
   leads = world_from-append domain n w a.more b.more
       ∙ (ap (λ x. world_from domain n x b.more) a.leads ∙ b.leads);
-  kept = b.kept;
+  preserved = b.preserved;
   packets = λ s c. b.packets s (a.packets s c);
   added = a.added ++ b.added;
   answers = b.answers ∙ (ap (λ x. x ++ b.added) a.answers ∙ append_assoc w.answers a.added b.added);
@@ -103,7 +103,7 @@ reach_all domain n up w P each skip k p (suc m) l =
   where
     by_up : (u : World) → LeadsTo domain n up w u → P m u → (b : Bool) → up m ≡ b → Reach domain n up u (P (suc m))
     by_up u g q true e = each m u (omega (arith, l)) e g q
-    by_up u g q false e = reach_here domain n up u (P (suc m)) g.kept (skip m u e q)
+    by_up u g q false e = reach_here domain n up u (P (suc m)) g.preserved (skip m u e q)
 
 -- single events
 
@@ -128,7 +128,7 @@ goes_event domain n up w later group k e at_up i on step is leads =
       more = e ∷ [];
       at_up = (at_up, tt);
       leads = leads;
-      kept = rw leads at next.kept;
+      preserved = rw leads at next.preserved;
       packets = λ s c. rw is (Contains-append_left w.packets step.packets s c);
       added = map (λ a. (i, a)) step.answers;
       answers = rw is refl;

@@ -11,7 +11,7 @@ use Rattle.desk_types.specs.declared.packet.Message.TheVariants.{Prepare, Prepar
 use Rattle.desk_types.specs.Lists.{others_below}
 use Rattle.desk_log.specs.Laws.{IsNewNumber}
 use Rattle.desk_log.proofs.Rising.{rising_with_one_more}
-use Rattle.desk_world.proofs.ViewLog.{view_of, has_begun, told_start, told_log}
+use Rattle.desk_world.proofs.ViewLog.{view_of, has_begun, announced_start, announced_log}
 use Rattle.desk_world.specs.World.{messages}
 use Rattle.desk_world.proofs.Packets.{Contains-none, Contains-cases, has_acked-more, has_acked-new}
 use Rattle.desk_world.proofs.Views.{TellsNothingNew, view_same, view_longer}
@@ -66,12 +66,13 @@ others_same i n p q c = each_same p (others_below i n) q c
 
 -- The view has the entry last, and the others are as they were.
 pub record Longer (ps qs : List Message) (v : ℕ) (e : Entry) : Type 0 where
-  pub here : view_of (ps ++ qs) v ≡ record { begun = true; start = told_start ps v; log = told_log ps v ++ e ∷ [] }
+  pub here : view_of (ps ++ qs) v ≡ record
+      { begun = true; start = announced_start ps v; log = announced_log ps v ++ e ∷ [] }
   pub there : (w : ℕ) → w ≢ v → view_of (ps ++ qs) w ≡ view_of ps w
 
 pub lengthens : (i n : ℕ) (ps : List Message) (v c : ℕ) (e : Entry) (ok : Message) → IsGroup n → has_begun ps v ≡ true →
-    ok ≡ PrepareOk i v (length (told_log ps v) + 1) →
-    Longer ps (ok ∷ messages (to_others i n (Prepare i v (length (told_log ps v) + 1) c e))) v e
+    ok ≡ PrepareOk i v (length (announced_log ps v) + 1) →
+    Longer ps (ok ∷ messages (to_others i n (Prepare i v (length (announced_log ps v) + 1) c e))) v e
 lengthens i n ps v c e ok group b is = record {
   here = rw s.first (view_longer ps ok p s.rest v i v m i m c e is refl b refl s.same);
   there = λ w ne. view_same ps (ok ∷ messages (to_others i n p)) w
@@ -79,7 +80,7 @@ lengthens i n ps v c e ok group b is = record {
 }
   where
     m : ℕ
-    m = length (told_log ps v) + 1
+    m = length (announced_log ps v) + 1
 
     p : Message
     p = Prepare i v m c e
@@ -96,19 +97,20 @@ lengthens i n ps v c e ok group b is = record {
 
 -- what holds of the view that got the entry
 pub longer_invariant : (n : ℕ) (ps qs : List Message) (v : ℕ) (e : Entry) → has_begun ps v ≡ true →
-    ViewInvariant n ps v → told_log (ps ++ qs) v ≡ told_log ps v ++ e ∷ [] →
-    IsNewNumber (told_log ps v) e → length (told_log ps v) < LOG_ENTRIES →
-    has_acked qs v (length (told_log ps v) + 1) (primary n v) ≡ true → ViewInvariant n (ps ++ qs) v
+    ViewInvariant n ps v → announced_log (ps ++ qs) v ≡ announced_log ps v ++ e ∷ [] →
+    IsNewNumber (announced_log ps v) e → length (announced_log ps v) < LOG_ENTRIES →
+    has_acked qs v (length (announced_log ps v) + 1) (primary n v) ≡ true → ViewInvariant n (ps ++ qs) v
 longer_invariant n ps qs v e b old is new room ack =
-    let pushed : length (told_log ps v ++ e ∷ []) ≡ length (told_log ps v) + 1 = length_push (told_log ps v) e in
-    let long : length (told_log (ps ++ qs) v) ≡ length (told_log ps v) + 1 = ap length is ∙ pushed in
+    let pushed : length (announced_log ps v ++ e ∷ []) ≡ length (announced_log ps v) + 1 =
+    length_push (announced_log ps v) e in
+    let long : length (announced_log (ps ++ qs) v) ≡ length (announced_log ps v) + 1 = ap length is ∙ pushed in
     record {
       made = λ pos. made_later n ps qs v b (old.made pos);
       own = λ m pos l. ⊎_elim
-          (λ high. let at : m ≡ length (told_log ps v) + 1 = omega arith in
-          rw at (has_acked-new ps qs v (length (told_log ps v) + 1) (primary n v) ack))
+          (λ high. let at : m ≡ length (announced_log ps v) + 1 = omega arith in
+          rw at (has_acked-new ps qs v (length (announced_log ps v) + 1) (primary n v) ack))
           (λ low. has_acked-more ps qs v m (primary n v) (old.own m pos low))
-          (cases_lt (length (told_log ps v)) m);
-      rising = rw is ((rising_with_one_more (told_log ps v) e).1 (old.rising, new));
+          (cases_lt (length (announced_log ps v)) m);
+      rising = rw is ((rising_with_one_more (announced_log ps v) e).1 (old.rising, new));
       within = omega arith;
     }

@@ -129,7 +129,7 @@ reach_served domain n up base entry v group inv can ahead =
     let raised : Reach domain n up base (AreRaised n up base v n) = raise_all domain n up base v group ahead inv in
     let offered : Reach domain n up base (HaveOffered n up base v n) =
     reach_then domain n up base (AreRaised n up base v n) (HaveOffered n up base v n) raised
-    (λ u g p. offer_all domain n up base v group ahead inv u g.kept p) in
+    (λ u g p. offer_all domain n up base v group ahead inv u g.preserved p) in
     let started : Reach domain n up base (HasStarted n up base v) =
     reach_then domain n up base (HaveOffered n up base v n) (HasStarted n up base v) offered
     (λ u g p. start_view domain n up base v group ahead inv u g p) in
@@ -140,13 +140,13 @@ reach_served domain n up base entry v group inv can ahead =
     (can.number started.holds.node started.holds.is_node started.holds.is_up) in
     let t : World = started.later in
     let adopted : Reach domain n up t (HaveAdopted n up base v l c n) =
-    adopt_all domain n up base v group ahead inv t started.goes.kept started.holds in
+    adopt_all domain n up base v group ahead inv t started.goes.preserved started.holds in
     let appended : Reach domain n up t (HaveAcknowledged n up v l entry c 0) =
     reach_then domain n up t (HaveAdopted n up base v l c n) (HaveAcknowledged n up v l entry c 0) adopted
-    (λ u g p. append_entry domain n up base v l c entry group ahead u g.kept admitted p) in
+    (λ u g p. append_entry domain n up base v l c entry group ahead u g.preserved admitted p) in
     let acknowledged : Reach domain n up t (HaveAcknowledged n up v l entry c n) =
     reach_then domain n up t (HaveAcknowledged n up v l entry c 0) (HaveAcknowledged n up v l entry c n) appended
-    (λ u g p. acknowledge_all domain n up v l entry c group u g.kept p) in
+    (λ u g p. acknowledge_all domain n up v l entry c group u g.preserved p) in
     let goes : LeadsTo domain n up base acknowledged.later =
     goes_on domain n up base t acknowledged.later started.goes acknowledged.goes in
     let last : Reach domain n up acknowledged.later (IsServedIn n up v l entry base) =

@@ -12,7 +12,7 @@ use Rattle.desk_log.proofs.Prefixes.{prefix_trans, length-prefix}
 use Rattle.desk_log.proofs.Places.{entry_at-prefix}
 use Rattle.desk_world.proofs.Packets.{IsBacked, IsBacked-more}
 use Rattle.desk_world.proofs.Views.{view_grows}
-use Rattle.desk_world.proofs.ViewLog.{has_begun, told_start, told_log}
+use Rattle.desk_world.proofs.ViewLog.{has_begun, announced_start, announced_log}
 use Rattle.desk_node.specs.State.{State}
 use Rattle.desk_log.specs.Quorum.{primary}
 
@@ -25,22 +25,22 @@ pub record NodeInvariant (n : ℕ) (ps : List Message) (i : ℕ) (s : SavedValue
   pub order : s.normal ≤ s.view
   pub within_log : s.commit ≤ length s.log
   pub begun : has_begun ps s.normal ≡ true
-  pub starts : IsLogPrefix (told_start ps s.normal) s.log
-  pub within : IsLogPrefix s.log (told_log ps s.normal)
-  pub whole : i ≡ primary n s.normal → s.log ≡ told_log ps s.normal
+  pub starts : IsLogPrefix (announced_start ps s.normal) s.log
+  pub within : IsLogPrefix s.log (announced_log ps s.normal)
+  pub whole : i ≡ primary n s.normal → s.log ≡ announced_log ps s.normal
   pub backed : IsBacked n ps s.normal s.commit
 
 -- A Prepare's entry stands at its place in the view's log.
 pub record PrepareHolds (n : ℕ) (ps : List Message) (j w m k : ℕ) (e : Entry) : Type 0 where
   pub begun : has_begun ps w ≡ true
   pub leader : j ≡ primary n w
-  pub stands : entry_at (told_log ps w) m ≡ Some e
+  pub stands : entry_at (announced_log ps w) m ≡ Some e
   pub backed : IsBacked n ps w k
 
 -- Who sent a PrepareOk of a view has its log up to the place, or is normal in a later view.
 pub record OkHolds (ps : List Message) (at : Nodes) (j x m : ℕ) : Type 0 where
   pub begun : has_begun ps x ≡ true
-  pub within : m ≤ length (told_log ps x)
+  pub within : m ≤ length (announced_log ps x)
   pub sender : (x < (at j).saved.normal) ⊎ ((x ≡ (at j).saved.normal) × (m ≤ length (at j).saved.log))
 
 pub record CommitHolds (n : ℕ) (ps : List Message) (j w k : ℕ) : Type 0 where
@@ -58,23 +58,23 @@ pub record OfferHolds (n : ℕ) (ps : List Message) (at : Nodes) (j w u c : ℕ)
   pub view_is : w ≤ (at j).saved.view
   pub still : OfferStill (at j).saved w u c l
   pub begun : has_begun ps u ≡ true
-  pub starts : IsLogPrefix (told_start ps u) l
-  pub within : IsLogPrefix l (told_log ps u)
+  pub starts : IsLogPrefix (announced_start ps u) l
+  pub within : IsLogPrefix l (announced_log ps u)
   pub backed : IsBacked n ps u c
 
 pub record StartHolds (n : ℕ) (ps : List Message) (j w c : ℕ) (l : List Entry) : Type 0 where
   pub later : 0 < w
   pub leader : j ≡ primary n w
   pub begun : has_begun ps w ≡ true
-  pub log_is : l ≡ told_start ps w
+  pub log_is : l ≡ announced_start ps w
   pub backed : IsBacked n ps w c
 
 -- A NewState's entries are the rest of a log of the view after a place.
 pub record StateHolds (n : ℕ) (ps : List Message) (w b c : ℕ) (es : List Entry) : Type 0 where
   pub begun : has_begun ps w ≡ true
   pub log : List Entry
-  pub starts : IsLogPrefix (told_start ps w) log
-  pub within : IsLogPrefix log (told_log ps w)
+  pub starts : IsLogPrefix (announced_start ps w) log
+  pub within : IsLogPrefix log (announced_log ps w)
   pub base : b ≤ length log
   pub rest : es ≡ drop b log
   pub backed : IsBacked n ps w c
@@ -140,7 +140,8 @@ pub MessageHolds-later : (n : ℕ) (ps qs : List Message) (at later : Nodes) →
 MessageHolds-later n ps qs at later nl (Prepare j w m k e) r = record {
   begun = (view_grows ps qs w).begun r.begun;
   leader = r.leader;
-  stands = entry_at-prefix (told_log ps w) (told_log (ps ++ qs) w) m e ((view_grows ps qs w).log r.begun) r.stands;
+  stands = entry_at-prefix (announced_log ps w) (announced_log (ps ++ qs) w) m e ((view_grows ps qs w).log r.begun)
+      r.stands;
   backed = IsBacked-more n ps qs w k r.backed;
 }
 MessageHolds-later n ps qs at later nl (PrepareOk j x m) r = record {
@@ -148,7 +149,7 @@ MessageHolds-later n ps qs at later nl (PrepareOk j x m) r = record {
   within = omega (
     arith,
     r.within,
-    length-prefix (told_log ps x) (told_log (ps ++ qs) x)
+    length-prefix (announced_log ps x) (announced_log (ps ++ qs) x)
         ((view_grows ps qs x).log r.begun),
   );
   sender = ok_later (at j).saved (later j).saved x m (nl j) r.sender;
@@ -167,7 +168,7 @@ MessageHolds-later n ps qs at later nl (DoViewChange j w u c l) r = record {
   still = still_later (at j).saved (later j).saved w u c l (nl j) r.older r.still;
   begun = (view_grows ps qs u).begun r.begun;
   starts = rw ((view_grows ps qs u).start r.begun) r.starts;
-  within = prefix_trans l (told_log ps u) (told_log (ps ++ qs) u) r.within ((view_grows ps qs u).log r.begun);
+  within = prefix_trans l (announced_log ps u) (announced_log (ps ++ qs) u) r.within ((view_grows ps qs u).log r.begun);
   backed = IsBacked-more n ps qs u c r.backed;
 }
 MessageHolds-later n ps qs at later nl (StartView j w c l) r = record {
@@ -182,7 +183,8 @@ MessageHolds-later n ps qs at later nl (NewState j w b c es) r = record {
   begun = (view_grows ps qs w).begun r.begun;
   log = r.log;
   starts = rw ((view_grows ps qs w).start r.begun) r.starts;
-  within = prefix_trans r.log (told_log ps w) (told_log (ps ++ qs) w) r.within ((view_grows ps qs w).log r.begun);
+  within = prefix_trans r.log (announced_log ps w) (announced_log (ps ++ qs) w) r.within
+      ((view_grows ps qs w).log r.begun);
   base = r.base;
   rest = r.rest;
   backed = IsBacked-more n ps qs w c r.backed;

@@ -23,7 +23,7 @@ use Rattle.desk_node.specs.Heard.{Heard, heard_of, silence}
 use Rattle.desk_node.specs.Rules.{step_of_change}
 use Rattle.desk_node.specs.Said.{has_acked}
 use Rattle.desk_world.specs.Views.{IsChosen}
-use Rattle.desk_world.proofs.ViewLog.{has_begun, told_start, told_log}
+use Rattle.desk_world.proofs.ViewLog.{has_begun, announced_start, announced_log}
 use Rattle.desk_world.specs.World.{messages}
 use Rattle.desk_log.proofs.Prefixes.{prefix_refl, prefix_trans, prefix_append, prefix_push, length-prefix}
 use Rattle.desk_log.proofs.Prefixes.{take_take-prefix}
@@ -44,16 +44,16 @@ use Rattle.desk_world.proofs.SafeSteps.{safe_nothing, safe_one_packet}
 abbrev with_longer_log : SavedValue → List Entry → ℕ → SavedValue
 with_longer_log s l k = record { view = s.view; normal = s.normal; log = l; commit = max s.commit (min k (length l)) }
 
-with_longer_log_kept : (n : ℕ) (ps : List Message) (i : ℕ) (s : SavedValue) → NodeInvariant n ps i s →
+with_longer_log_preserved : (n : ℕ) (ps : List Message) (i : ℕ) (s : SavedValue) → NodeInvariant n ps i s →
     (l : List Entry) →
-    IsLogPrefix s.log l → IsLogPrefix l (told_log ps s.normal) →
-    (i ≡ primary n s.normal → l ≡ told_log ps s.normal) → (k : ℕ) → IsBacked n ps s.normal k →
+    IsLogPrefix s.log l → IsLogPrefix l (announced_log ps s.normal) →
+    (i ≡ primary n s.normal → l ≡ announced_log ps s.normal) → (k : ℕ) → IsBacked n ps s.normal k →
     NodeInvariant n ps i (with_longer_log s l k)
-with_longer_log_kept n ps i s own l longer within whole k p = record {
+with_longer_log_preserved n ps i s own l longer within whole k p = record {
   order = own.order;
   within_log = omega (arith, own.within_log, length-prefix s.log l longer);
   begun = own.begun;
-  starts = prefix_trans (told_start ps s.normal) s.log l own.starts longer;
+  starts = prefix_trans (announced_start ps s.normal) s.log l own.starts longer;
   within = within;
   whole = whole;
   backed = IsBacked-max n ps s.normal s.commit (min k (length l)) own.backed
@@ -74,7 +74,7 @@ with_longer_log_later s l k e c f = record {
 -- A node that is normal in a view may acknowledge a place up to its log's length.
 pub fit_ok : (n : ℕ) (ps : List Message) (i : ℕ) (old new : SavedValue) (v m : ℕ) → new.view ≡ v → new.normal ≡ v →
     has_begun ps v ≡ true →
-    m ≤ length (told_log ps v) → m ≤ length new.log → Fit n ps i old new (PrepareOk i v m)
+    m ≤ length (announced_log ps v) → m ≤ length new.log → Fit n ps i old new (PrepareOk i v m)
 fit_ok n ps i old new v m ev en b lg ll = record {
   holds = λ after e. record {
     begun = b;
@@ -124,26 +124,28 @@ safe_prepare domain n ps at i from w m c e k r =
     (λ q.
     let next : m ≡ length s.log + 1 = eqb-true m (length s.log + 1) q in
     let place : m ≡ suc (length s.log) = omega arith in
-    let stands : entry_at (told_log ps s.normal) (suc (length s.log)) ≡ Some e = rw (wu, place) at r.stands in
+    let stands : entry_at (announced_log ps s.normal) (suc (length s.log)) ≡ Some e = rw (wu, place) at r.stands in
     let l : List Entry = s.log ++ e ∷ [] in
     let longer : IsLogPrefix s.log l = prefix_append s.log (e ∷ []) in
-    let within : IsLogPrefix l (told_log ps s.normal) = prefix_push s.log (told_log ps s.normal) e own.within stands in
-    let long : length l ≤ length (told_log ps w) = rw (← uw) (length-prefix l (told_log ps s.normal) within) in
+    let within : IsLogPrefix l (announced_log ps s.normal) =
+    prefix_push s.log (announced_log ps s.normal) e own.within stands in
+    let long : length l ≤ length (announced_log ps w) =
+    rw (← uw) (length-prefix l (announced_log ps s.normal) within) in
     let pushed : length l ≡ length s.log + 1 = length_push s.log e in
     let new : SavedValue = commit_up_to c (with_entry e s) in
     safe_plain domain n ps at i k new ((from, PrepareOk i w m) ∷ []) answers.Nothing
     (with_longer_log_later s l c here.1 own.within_log longer)
-    (with_longer_log_kept n ps i s own l longer within (λ z. absurd (apart z)) c p)
+    (with_longer_log_preserved n ps i s own l longer within (λ z. absurd (apart z)) c p)
     (fit_ok n ps i s new w m (sym here.0) uw started (omega (arith, long, pushed)) (omega (arith, pushed)), tt) tt)
     (λ _.
     safe_if (leb m (length s.log))
     (λ _.
     let new : SavedValue = commit_up_to c s in
-    let long : length s.log ≤ length (told_log ps w) =
-    rw (← uw) (length-prefix s.log (told_log ps s.normal) own.within) in
+    let long : length s.log ≤ length (announced_log ps w) =
+    rw (← uw) (length-prefix s.log (announced_log ps s.normal) own.within) in
     safe_plain domain n ps at i k new ((from, PrepareOk i w (length s.log)) ∷ []) answers.Nothing
     (with_longer_log_later s s.log c here.1 own.within_log (prefix_refl s.log))
-    (with_longer_log_kept n ps i s own s.log (prefix_refl s.log) own.within own.whole c p)
+    (with_longer_log_preserved n ps i s own s.log (prefix_refl s.log) own.within own.whole c p)
     (fit_ok n ps i s new w (length s.log) (sym here.0) uw started long (omega arith), tt) tt)
     (λ _. safe_one_packet domain n ps at i from _ k (fit_asks n ps i s s i w s.commit)))))
 
@@ -160,12 +162,12 @@ safe_commit domain n ps at i from w c k r =
     let p : IsBacked n ps s.normal c = rw (here.0, ← here.1) at r.backed in
     let new : SavedValue = commit_up_to c s in
     let later : SavedLater s new = with_longer_log_later s s.log c here.1 own.within_log (prefix_refl s.log) in
-    let kept : NodeInvariant n ps i new = with_longer_log_kept n ps i s own s.log
+    let preserved : NodeInvariant n ps i new = with_longer_log_preserved n ps i s own s.log
     (prefix_refl s.log) own.within own.whole c p in
     safe_if (ltb (length s.log) c)
-    (λ _. safe_plain domain n ps at i k new ((from, GetState i w new.commit) ∷ []) answers.Nothing later kept
+    (λ _. safe_plain domain n ps at i k new ((from, GetState i w new.commit) ∷ []) answers.Nothing later preserved
     (fit_asks n ps i s new i w new.commit, tt) tt)
-    (λ _. safe_plain domain n ps at i k new [] answers.Nothing later kept tt tt)))
+    (λ _. safe_plain domain n ps at i k new [] answers.Nothing later preserved tt tt)))
 
 -- the normal primary of a view
 pub leads_facts : (i n : ℕ) (s : SavedValue) → leads i n s ≡ true → (s.normal ≡ s.view) × (i ≡ primary n s.view)
@@ -239,7 +241,7 @@ safe_acknowledged domain n ps at i k small t p sent places e =
     let lead = leads_facts i n s t in
     let c : ℕ = acknowledged_place i n places (length s.log) in
     let new : SavedValue = commit_up_to c s in
-    let told : List (ℕ × Message) = to_others i n (Commit i new.view new.commit) in
+    let announced : List (ℕ × Message) = to_others i n (Commit i new.view new.commit) in
     let change : Change = record {
       saved = new;
       taken = p ∷ [];
@@ -248,7 +250,7 @@ safe_acknowledged domain n ps at i k small t p sent places e =
           answers.Replies s.commit new.commit;
     } in
     let started : has_begun ps s.view ≡ true = rw lead.0 at own.begun in
-    let whole : s.log ≡ told_log ps s.view = own.whole (rw lead.0 lead.1) ∙ ap (told_log ps) lead.0 in
+    let whole : s.log ≡ announced_log ps s.view = own.whole (rw lead.0 lead.1) ∙ ap (announced_log ps) lead.0 in
     let mine : (m : ℕ) → 0 < m → m ≤ length s.log → has_acked ps s.view m i ≡ true = λ m pos l.
     ap (has_acked ps s.view m) lead.1 ∙ (k.views s.view started).own m pos (omega (arith, l, ap length whole)) in
     let counts : IsVoted i n (heard_of n s.view rs).places c =
@@ -256,15 +258,15 @@ safe_acknowledged domain n ps at i k small t p sent places e =
     let backed : IsBacked n ps s.normal c =
     rw lead.0 (votes_backed n ps i s.view rs small taken (length s.log) mine c
     (acknowledged_is_greatest i n places (length s.log)).within counts) in
-    let kept : NodeInvariant n ps i new =
-    with_longer_log_kept n ps i s own s.log (prefix_refl s.log) own.within own.whole c backed in
+    let preserved : NodeInvariant n ps i new =
+    with_longer_log_preserved n ps i s own s.log (prefix_refl s.log) own.within own.whole c backed in
     let holds : CommitHolds n ps i new.view new.commit =
-    record { begun = started; leader = lead.1; backed = rw lead.0 at kept.backed } in
+    record { begun = started; leader = lead.1; backed = rw lead.0 at preserved.backed } in
     good_safe domain n ps at i (at i).received change k
     (good_plain domain n ps at i (step_of_change domain (at i).received change) k
-    (with_longer_log_later s s.log c lead.0 own.within_log (prefix_refl s.log)) kept
+    (with_longer_log_later s s.log c lead.0 own.within_log (prefix_refl s.log)) preserved
     (λ q a. Contains-append_left ps (messages (commit_packets i n new s.commit)) q (taken q a))
-    (fit_if n ps i s new (ltb s.commit new.commit) told
+    (fit_if n ps i s new (ltb s.commit new.commit) announced
     (λ _. fit_others n ps i s new (Commit i new.view new.commit) (record { holds = λ _ _. holds; here = tt })))
     (answers_after-answered domain new s.commit (new.commit - s.commit) (omega arith)))
 

@@ -86,7 +86,7 @@ hear_next domain n up u j v s group small on changing asked m t from on_m goes p
   where
     by_node : AwaitsQuorum n up j v m (node_of_world t j).received → (m ≡ j) ⊎ (m ≢ j) →
         Reach domain n up t (HasOffered n up u j v (suc m) s)
-    by_node waits (inl e) = reach_here domain n up t (HasOffered n up u j v (suc m) s) goes.kept (record {
+    by_node waits (inl e) = reach_here domain n up t (HasOffered n up u j v (suc m) s) goes.preserved (record {
       saved = p.saved;
       there = p.there;
       result = inr (record {
@@ -96,12 +96,12 @@ hear_next domain n up u j v s group small on changing asked m t from on_m goes p
       });
     })
     by_node waits (inr ne) = hear_one domain n up u j v s group small on changing m t from ne
-        (goes.packets (j, StartViewChange m v) (asked m from on_m ne)) goes.kept p.saved p.there waits
+        (goes.packets (j, StartViewChange m v) (asked m from on_m ne)) goes.preserved p.saved p.there waits
 
     by_result : Contains t.packets (primary n v, offer_packet j (in_view v s))
         ⊎ AwaitsQuorum n up j v m (node_of_world t j).received →
         Reach domain n up t (HasOffered n up u j v (suc m) s)
-    by_result (inl out) = reach_here domain n up t (HasOffered n up u j v (suc m) s) goes.kept
+    by_result (inl out) = reach_here domain n up t (HasOffered n up u j v (suc m) s) goes.preserved
         (record { saved = p.saved; there = p.there; result = inl out })
     by_result (inr waits) = by_node waits (cases_eq m j)
 
@@ -181,11 +181,11 @@ nothing_heard : (domain : List ℕ) (n : ℕ) (up : ℕ → Bool) (base : World)
 nothing_heard domain n up base v j ahead inv = (
   λ k u c l a.
       let h : OfferHolds n (messages base.packets) (node_of_world base) k v u c l =
-      inv.kept.packets (DoViewChange k v u c l) (inv.kept.taken j _ a) in
+      inv.preserved.packets (DoViewChange k v u c l) (inv.preserved.taken j _ a) in
       omega (arith, h.view_is, ahead.later k),
   λ k a.
       let h : v ≤ (node_of_world base k).saved.view =
-      inv.kept.packets (StartViewChange k v) (inv.kept.taken j _ a) in
+      inv.preserved.packets (StartViewChange k v) (inv.preserved.taken j _ a) in
       omega (arith, h, ahead.later k),
 )
 
@@ -196,7 +196,7 @@ offer_next domain n up base v group ahead old k u small on inv p =
     let s : SavedValue = (node_of_world base k).saved in
     let silent = nothing_heard domain n up base v k ahead old in
     let same : (node_of_world u k).received ≡ (node_of_world base k).received = p.received k (omega arith) in
-    let changing : s.normal < v = omega (arith, (old.kept.nodes k).order, ahead.later k) in
+    let changing : s.normal < v = omega (arith, (old.preserved.nodes k).order, ahead.later k) in
     let r : Reach domain n up u (IsOffered n u k v s) =
     hear_all domain n up u k v s group ahead.majority small on changing
     (λ l m on_l ne. p.asked l k m on_l small (λ e. ne (sym e))) inv (p.saved k small on) (rw same silent.0)
@@ -225,7 +225,7 @@ pub offer_all : (domain : List ℕ) (n : ℕ) (up : ℕ → Bool) (base : World)
     Reach domain n up u (HaveOffered n up base v n)
 offer_all domain n up base v group ahead old u inv p =
     reach_all domain n up u (HaveOffered n up base v)
-    (λ k t small on g q. offer_next domain n up base v group ahead old k t small on g.kept q)
+    (λ k t small on g q. offer_next domain n up base v group ahead old k t small on g.preserved q)
     (λ k t off q. record {
       saved = q.saved;
       received = λ j l. q.received j (omega (arith, l));

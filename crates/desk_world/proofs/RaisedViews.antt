@@ -120,7 +120,7 @@ raise_one domain n up group i v small on last (suc d) u k e =
     ap (λ (x : SavedValue). x.view) one.saved in
     let goes : LeadsTo domain n up u t = goes_suspect domain n up u group k i small on in
     let r : Reach domain n up t (IsRaised n t i v) =
-    raise_one domain n up group i v small on last d t goes.kept (omega (arith, e, view)) in
+    raise_one domain n up group i v small on last d t goes.preserved (omega (arith, e, view)) in
     record {
       later = r.later;
       goes = goes_on domain n up u t r.later goes r.goes;
@@ -190,7 +190,7 @@ pub raise_all : (domain : List ℕ) (n : ℕ) (up : ℕ → Bool) (base : World)
     WorldInvariant domain n base → Reach domain n up base (AreRaised n up base v n)
 raise_all domain n up base v group ahead inv =
     reach_all domain n up base (AreRaised n up base v)
-    (λ k u small on g p. raise_next domain n up base v group ahead k u small on g.kept p)
+    (λ k u small on g p. raise_next domain n up base v group ahead k u small on g.preserved p)
     (λ k u off p. record {
       saved = λ j l on. p.saved j (omega (arith, l, not_down up k j off on)) on;
       received = p.received;

@@ -52,7 +52,15 @@ use Rattle.desk_world.proofs.FirstEntries.{slice_get-drop}
 use Rattle.desk_world.proofs.Invariant.{GroupInvariant, StartsWithBest}
 use Rattle.desk_world.proofs.NodeInvariants.{Nodes, NodeInvariant}
 use Rattle.desk_world.proofs.Packets.{Contains-here, Contains-there, Contains-none, Contains-cases}
-use Rattle.desk_world.proofs.ViewLog.{ViewLog, view_start, view_after, view_from, has_begun, told_start, told_log}
+use Rattle.desk_world.proofs.ViewLog.{
+  ViewLog,
+  view_start,
+  view_after,
+  view_from,
+  has_begun,
+  announced_start,
+  announced_log,
+}
 use Rattle.desk_world.proofs.Views.{from_grows}
 use Rattle.desk_world.proofs.WorldInvariants.{WorldInvariant, Next, next_run, start_invariant}
 use Rattle.std.proofs.lemmas.Option.{slice_get_within, get_or_from_slice_get}
@@ -114,12 +122,13 @@ from_covered P w v (p ∷ ps) q h =
 
 -- Where all Prepares pass, so do the entries of each view that has started: those of its start log stand in the log of
 -- an earlier view.
-told_entries : (P : Entry → Type 0) (n : ℕ) (ps : List Message) (at : Nodes) → GroupInvariant n ps at →
-    PreparesAre P ps → (fuel w : ℕ) → w < fuel → has_begun ps w ≡ true → EntriesAre P (told_log ps w)
-told_entries P n ps at k q zero w l b place e h = absurd (omega (arith, l))
-told_entries P n ps at k q (suc fuel) w l b place e h =
+announced_entries : (P : Entry → Type 0) (n : ℕ) (ps : List Message) (at : Nodes) → GroupInvariant n ps at →
+    PreparesAre P ps → (fuel w : ℕ) → w < fuel → has_begun ps w ≡ true → EntriesAre P (announced_log ps w)
+announced_entries P n ps at k q zero w l b place e h = absurd (omega (arith, l))
+announced_entries P n ps at k q (suc fuel) w l b place e h =
     ⊎_elim
-    (λ there. by_start (λ x less begun m there. told_entries P n ps at k q fuel x less begun m e there) (cases_eq w 0)
+    (λ there. by_start (λ x less begun m there. announced_entries P n ps at k q fuel x less begun m e there)
+    (cases_eq w 0)
     there)
     (λ p. p)
     (from_covered P w (view_start w) ps q (λ m x none. absurd (empty m x none)) place e h)
@@ -128,23 +137,24 @@ told_entries P n ps at k q (suc fuel) w l b place e h =
     empty zero x none = none-some x none
     empty (suc m) x none = none-some x none
 
-    by_start : ((x : ℕ) → x < fuel → has_begun ps x ≡ true → (m : ℕ) → entry_at (told_log ps x) m ≡ Some e → P e) →
-        (w ≡ 0) ⊎ (w ≢ 0) → entry_at (told_start ps w) place ≡ Some e → P e
+    by_start : ((x : ℕ) → x < fuel → has_begun ps x ≡ true → (m : ℕ) → entry_at (announced_log ps x) m ≡ Some e → P e) →
+        (w ≡ 0) ⊎ (w ≢ 0) → entry_at (announced_start ps w) place ≡ Some e → P e
     by_start earlier (inl z) there =
-        let nothing_there : told_start ps 0 ≡ [] = (from_grows 0 (view_start 0) ps).start refl in
-        absurd (empty place e (ap (λ es. entry_at es place) (sym nothing_there ∙ ap (told_start ps) (sym z)) ∙ there))
+        let nothing_there : announced_start ps 0 ≡ [] = (from_grows 0 (view_start 0) ps).start refl in
+        absurd (empty place e (ap (λ es. entry_at es place) (sym nothing_there ∙ ap (announced_start ps) (sym z)) ∙
+        there))
     by_start earlier (inr ne) there =
         let made : StartsWithBest n ps w = (k.views w b).made (omega (arith, ne)) in
         earlier made.from_view (omega (arith, l, made.older)) made.from_begun place
-        (entry_at-prefix (told_start ps w) (told_log ps made.from_view) place e made.within there)
+        (entry_at-prefix (announced_start ps w) (announced_log ps made.from_view) place e made.within there)
 
 -- so do those of each node's log
 node_entries : (P : Entry → Type 0) (n : ℕ) (ps : List Message) (at : Nodes) → GroupInvariant n ps at →
     PreparesAre P ps → (i : ℕ) → EntriesAre P (at i).saved.log
 node_entries P n ps at k q i place e h =
     let own : NodeInvariant n ps i (at i).saved = k.nodes i in
-    told_entries P n ps at k q (suc (at i).saved.normal) (at i).saved.normal (omega arith) own.begun place e
-    (entry_at-prefix (at i).saved.log (told_log ps (at i).saved.normal) place e own.within h)
+    announced_entries P n ps at k q (suc (at i).saved.normal) (at i).saved.normal (omega arith) own.begun place e
+    (entry_at-prefix (at i).saved.log (announced_log ps (at i).saved.normal) place e own.within h)
 
 -- what a rule sends
 
@@ -382,7 +392,7 @@ comes_prepares P domain n w i event k q v None e = q
 comes_prepares P domain n w i event k q v (Some node) e =
     let same : node_of_world w i ≡ node = get_or_from_slice_get w.nodes i node first_state e in
     let own : EntriesAre P (node_of_world w i).saved.log =
-    node_entries P n (messages w.packets) (node_of_world w) k.kept q i in
+    node_entries P n (messages w.packets) (node_of_world w) k.preserved q i in
     let sent : List (ℕ × Message) = (node_step domain i n node event).packets in
     let all : messages (w.packets ++ sent) ≡ messages w.packets ++ messages sent =
     map-append (λ (x : ℕ × Message). x.1) w.packets sent in
@@ -427,7 +437,7 @@ run_prepares : (P : Entry → Type 0) (domain : List ℕ) (n : ℕ) (w : World) 
 run_prepares P domain n w group k q [] v = q
 run_prepares P domain n w group k q (e ∷ es) v =
     let one : Next domain n w (world_after domain n w e) = next_run domain n w group k (e ∷ []) in
-    run_prepares P domain n (world_after domain n w e) group one.kept
+    run_prepares P domain n (world_after domain n w e) group one.preserved
     (after_prepares P domain n w k q e (v e (Contains-here e es))) es
     (λ event c. v event (Contains-there e es event c))
 
@@ -452,7 +462,7 @@ log_is_requested domain n es i place e group h =
     let q : PreparesAre (IsRequested es) (messages w.packets) =
     run_prepares (IsRequested es) domain n (first_world n) group (start_invariant domain n)
     (start_prepares (IsRequested es) n) es (requested es) in
-    node_entries (IsRequested es) n (messages w.packets) (node_of_world w) k.kept q i place e h
+    node_entries (IsRequested es) n (messages w.packets) (node_of_world w) k.preserved q i place e h
 
 pub committed_is_requested : CommittedIsRequested
 committed_is_requested domain n es i place e group h =

@@ -12,7 +12,7 @@ use Rattle.desk_normal.specs.Rules.{normal_resend}
 use Rattle.desk_log.proofs.Prefixes.{length-prefix}
 use Rattle.desk_world.proofs.FirstEntries.{slice_get-drop}
 use Rattle.desk_world.proofs.Packets.{IsBacked}
-use Rattle.desk_world.proofs.ViewLog.{has_begun, told_log}
+use Rattle.desk_world.proofs.ViewLog.{has_begun, announced_log}
 use Rattle.desk_world.proofs.NodeInvariants.{Nodes, NodeInvariant, PrepareHolds, CommitHolds}
 use Rattle.desk_world.proofs.Invariant.{GroupInvariant}
 use Rattle.desk_world.proofs.SafeSteps.{AllSentFit, fit_append, fit_others, Safe, safe_if, safe_same, safe_one_packet}
@@ -24,7 +24,7 @@ use Rattle.desk_normal.specs.Rules.{prepare_packets}
 fit_prepares : (n : ℕ) (ps : List Message) (i : ℕ) (old : SavedValue) (new s : SavedValue) →
     has_begun ps s.view ≡ true → i ≡ primary n s.view → IsBacked n ps s.view s.commit →
     (m : ℕ) (es : List Entry) → ((k : ℕ) (x : Entry) → slice_get es k ≡ Some x →
-    slice_get (told_log ps s.view) (m + k) ≡ Some x) → AllSentFit n ps i old new (prepare_packets i n s (suc m) es)
+    slice_get (announced_log ps s.view) (m + k) ≡ Some x) → AllSentFit n ps i old new (prepare_packets i n s (suc m) es)
 fit_prepares n ps i old new s b l p m [] h = tt
 fit_prepares n ps i old new s b l p m (e ∷ es) h =
     let here : m + 0 ≡ m = omega arith in
@@ -48,7 +48,7 @@ safe_normal_resend domain n ps at i k t =
     (λ y.
     let lead = leads_facts i n s y in
     let started : has_begun ps s.view ≡ true = rw lead.0 at own.begun in
-    let whole : s.log ≡ told_log ps s.view = own.whole (rw lead.0 lead.1) ∙ ap (told_log ps) lead.0 in
+    let whole : s.log ≡ announced_log ps s.view = own.whole (rw lead.0 lead.1) ∙ ap (announced_log ps) lead.0 in
     let p : IsBacked n ps s.view s.commit = rw lead.0 at own.backed in
     let sends : List (ℕ × Message) = prepare_packets i n s (suc s.commit) (drop s.commit s.log) in
     let tells : List (ℕ × Message) = to_others i n (Commit i s.view s.commit) in
@@ -61,4 +61,4 @@ safe_normal_resend domain n ps at i k t =
     (λ _.
     safe_one_packet domain n ps at i (primary n s.view) (PrepareOk i s.view (length s.log)) k
     (fit_ok n ps i s s s.view (length s.log) refl e (rw e at own.begun)
-    (rw e at (length-prefix s.log (told_log ps s.normal) own.within)) (omega arith)))
+    (rw e at (length-prefix s.log (announced_log ps s.normal) own.within)) (omega arith)))

@@ -16,7 +16,7 @@ use Rattle.desk_log.specs.declared.answers.Answers.TheVariants as answers
 use Rattle.desk_node.specs.Answers.{outcomes_of}
 use Rattle.desk_node.specs.Rules.{step_of_change}
 use Rattle.desk_world.specs.World.{messages}
-use Rattle.desk_world.proofs.ViewLog.{view_of, has_begun, told_start, told_log}
+use Rattle.desk_world.proofs.ViewLog.{view_of, has_begun, announced_start, announced_log}
 use Rattle.desk_log.proofs.Places.{entry_at_within}
 use Rattle.desk_log.proofs.Prefixes.{prefix_trans}
 use Rattle.desk_world.proofs.Packets.{Contains-cases, Contains-none, has_acked-more}
@@ -93,7 +93,7 @@ holds_tells n ps at (Prepare j x m k e) h w = λ q.
     let r : PrepareHolds n ps j x m k e = h in (
       ap (has_begun ps) (sym q) ∙ r.begun,
       omega
-          (arith, (entry_at_within (told_log ps x) m e r.stands).1, ap (λ z. length (told_log ps z)) q),
+          (arith, (entry_at_within (announced_log ps x) m e r.stands).1, ap (λ z. length (announced_log ps z)) q),
     )
 holds_tells n ps at (StartView j x c l) h w = λ q.
     let r : StartHolds n ps j x c l = h in
@@ -111,17 +111,18 @@ nodes_same at j = saved_same (at j).saved
 pub made_later : (n : ℕ) (ps qs : List Message) (w : ℕ) → has_begun ps w ≡ true → StartsWithBest n ps w →
     StartsWithBest n (ps ++ qs) w
 made_later n ps qs w b m =
-    let first : told_start (ps ++ qs) w ≡ told_start ps w = (view_grows ps qs w).start b in
+    let first : announced_start (ps ++ qs) w ≡ announced_start ps w = (view_grows ps qs w).start b in
     record {
       from_view = m.from_view;
       older = m.older;
       from_begun = (view_grows ps qs m.from_view).begun m.from_begun;
       keeps = rw ((view_grows ps qs m.from_view).start m.from_begun, first) m.keeps;
-      within = prefix_trans (told_start (ps ++ qs) w) (told_log ps m.from_view) (told_log (ps ++ qs) m.from_view)
+      within = prefix_trans (announced_start (ps ++ qs) w) (announced_log ps m.from_view)
+          (announced_log (ps ++ qs) m.from_view)
           (rw first m.within) ((view_grows ps qs m.from_view).log m.from_begun);
       voters = m.voters;
       quorum = m.quorum;
-      best = λ j l v. let o : OffersNoBetter ps w j m.from_view (length (told_start ps w)) = m.best j l v in
+      best = λ j l v. let o : OffersNoBetter ps w j m.from_view (length (announced_start ps w)) = m.best j l v in
           record {
             normal = o.normal;
             commit = o.commit;
@@ -133,7 +134,8 @@ made_later n ps qs w b m =
     }
 
 -- what holds of a view whose log did not change
-pub view_more : (n : ℕ) (ps qs : List Message) (w : ℕ) → has_begun ps w ≡ true → told_log (ps ++ qs) w ≡ told_log ps w →
+pub view_more : (n : ℕ) (ps qs : List Message) (w : ℕ) → has_begun ps w ≡ true →
+    announced_log (ps ++ qs) w ≡ announced_log ps w →
     ViewInvariant n ps w → ViewInvariant n (ps ++ qs) w
 view_more n ps qs w b same v = record {
   made = λ pos. made_later n ps qs w b (v.made pos);
@@ -179,7 +181,7 @@ node_after received c = record { saved = c.saved; received = received ++ c.taken
 -- What a change of node i, which received these packets before, gives, whatever else happened.
 pub record Safe (domain : List ℕ) (n : ℕ) (ps : List Message) (at : Nodes) (i : ℕ) (received : List Message)
     (c : Change) : Type 0 where
-  pub kept : (later : Nodes) → DiffersAt at later i (node_after received c) →
+  pub preserved : (later : Nodes) → DiffersAt at later i (node_after received c) →
       GroupInvariant n (ps ++ messages c.packets) later
   pub grows : SavedLater (at i).saved c.saved
   pub answered : AreCommittedAnswers domain c.saved (outcomes_of domain c.saved.log c.answers)
@@ -188,7 +190,7 @@ pub good_safe : (domain : List ℕ) (n : ℕ) (ps : List Message) (at : Nodes) (
     (c : Change) → GroupInvariant n ps at →
     KeepsInvariant domain n ps at i (step_of_change domain received c) → Safe domain n ps at i received c
 good_safe domain n ps at i received c k d = record {
-  kept = λ later mv. good_invariant domain n ps at later i (step_of_change domain received c) k mv d;
+  preserved = λ later mv. good_invariant domain n ps at later i (step_of_change domain received c) k mv d;
   grows = d.saved;
   answered = d.answered;
 }
@@ -212,11 +214,12 @@ pub safe_plain : (domain : List ℕ) (n : ℕ) (ps : List Message) (at : Nodes) 
     AllSentFit n ps i (at i).saved saved packets →
     AreCommittedAnswers domain saved (outcomes_of domain saved.log answers) →
     Safe domain n ps at i (at i).received (record { saved = saved; taken = []; packets = packets; answers = answers })
-safe_plain domain n ps at i k saved packets answers later kept fit answered =
+safe_plain domain n ps at i k saved packets answers later preserved fit answered =
     let c : Change = record { saved = saved; taken = []; packets = packets; answers = answers } in
     let step : NodeStep = step_of_change domain (at i).received c in
     good_safe domain n ps at i (at i).received c k
-    (good_plain domain n ps at i step k later kept (taken_same ps (messages packets) (at i).received (k.taken i)) fit
+    (good_plain domain n ps at i step k later preserved (taken_same ps (messages packets) (at i).received (k.taken i))
+    fit
     answered)
 
 -- The saved state stays.
@@ -285,7 +288,7 @@ pub safe_after : (domain : List ℕ) (n : ℕ) (ps : List Message) (at : Nodes) 
     Safe domain n (ps ++ messages packets) between i (received ++ taken) c) →
     Safe domain n ps at i received (change_after taken packets c)
 safe_after domain n ps at i received saved taken packets c one two = record {
-  kept = λ later mv. rw all at (next.kept later
+  preserved = λ later mv. rw all at (next.preserved later
       (record {
         here = mv.here ∙ ap (λ rs. record { saved = c.saved; received = rs })
             (sym (append_assoc received taken c.taken));
@@ -302,7 +305,7 @@ safe_after domain n ps at i received saved taken packets c one two = record {
     between = put at i node
 
     next : Safe domain n (ps ++ messages packets) between i (received ++ taken) c
-    next = two between (one.kept between (record { here = put_here at i node; there = put_there at i node }))
+    next = two between (one.preserved between (record { here = put_here at i node; there = put_there at i node }))
         (put_here at i node)
 
     all : (ps ++ messages packets) ++ messages c.packets ≡ ps ++ messages (packets ++ c.packets)

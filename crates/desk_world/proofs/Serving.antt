@@ -196,7 +196,7 @@ commit_serves domain n up v l e base t later c change group lead goes within g c
   reply = reply_to domain log m e;
   answered = Contains-append_right goes.added
       (map (λ a. (i, a)) (outcomes_of domain change.saved.log change.answers)) (i, answer)
-      (Contains-map i (outcomes_of domain change.saved.log change.answers) answer told);
+      (Contains-map i (outcomes_of domain change.saved.log change.answers) answer announced);
 }
   where
     i : ℕ
@@ -217,8 +217,8 @@ commit_serves domain n up v l e base t later c change group lead goes within g c
     last : entry_at log m ≡ Some e
     last = entry_at-last l e
 
-    told : Contains (outcomes_of domain change.saved.log change.answers) answer
-    told = rw (commits.saved, commits.answers_are) (answers_have domain log c m e (omega (arith, within)) last)
+    announced : Contains (outcomes_of domain change.saved.log change.answers) answer
+    announced = rw (commits.saved, commits.answers_are) (answers_have domain log c m e (omega (arith, within)) last)
 
 count_one : (domain : List ℕ) (n : ℕ) (up : ℕ → Bool) (v : ℕ) (l : List Entry) (e : Entry) (base : World) → IsGroup n →
     up (primary n v) ≡ true → (j : ℕ) → j < n → j ≢ primary n v → (t : World) → LeadsTo domain n up base t → (c : ℕ) →
@@ -236,7 +236,7 @@ count_one domain n up v l e base group lead j from ne t goes c within saved sent
     let counted : Counts n i v c l e (heard_of n v (rs ++ p ∷ [])).places (p ∷ []) change =
     ok_counts n i v c j l e rs from refl ne within in
     let r : Reach domain n up t (ChangesNode domain t i change) =
-    reach_packet domain n up t group goes.kept i small lead p sent (normal_in v (l ++ e ∷ []) c) saved in
+    reach_packet domain n up t group goes.preserved i small lead p sent (normal_in v (l ++ e ∷ []) c) saved in
     record {
       later = r.later;
       goes = r.goes;
@@ -309,7 +309,7 @@ await_next domain n up v l e base group lead k t small on goes sent p = by_resul
   where
     by_node : AwaitsCommit n up v l e k t → (k ≡ primary n v) ⊎ (k ≢ primary n v) →
         Reach domain n up t (HasAwaited n up v l e base (suc k))
-    by_node w (inl q) = reach_here domain n up t (HasAwaited n up v l e base (suc k)) goes.kept (record {
+    by_node w (inl q) = reach_here domain n up t (HasAwaited n up v l e base (suc k)) goes.preserved (record {
       result = inl (record {
         commit = w.commit;
         within = w.within;
@@ -322,7 +322,7 @@ await_next domain n up v l e base group lead k t small on goes sent p = by_resul
     by_result : AwaitsCommit n up v l e k t ⊎ IsServedIn n up v l e base t →
         Reach domain n up t (HasAwaited n up v l e base (suc k))
     by_result (inl w) = by_node w (cases_eq k (primary n v))
-    by_result (inr s) = reach_here domain n up t (HasAwaited n up v l e base (suc k)) goes.kept
+    by_result (inr s) = reach_here domain n up t (HasAwaited n up v l e base (suc k)) goes.preserved
         (record { result = inr s })
 
 -- Nothing is wanted of a node that is not up.
@@ -358,7 +358,7 @@ await_last domain n up v l e base group most lead j from ne t goes sent p = by_r
 
     by_result : AwaitsCommit n up v l e n t ⊎ IsServedIn n up v l e base t →
         Reach domain n up t (IsServedIn n up v l e base)
-    by_result (inr s) = reach_here domain n up t (IsServedIn n up v l e base) goes.kept s
+    by_result (inr s) = reach_here domain n up t (IsServedIn n up v l e base) goes.preserved s
     by_result (inl w) =
         let small : i < n = mod-lt v (omega (arith, group.least)) in
         let r : Reach domain n up t (HasCounted n up v l e base (rs ++ ok ∷ [])) =
@@ -388,7 +388,7 @@ serve domain n up v l e c base group ahead t goes within saved sent =
     (reach_all domain n up t (HasAwaited n up v l e base)
     (λ k u small on g q. await_next domain n up v l e base group lead k u small on (goes_on domain n up base t u goes g)
     (λ m low on_m ne. g.packets (primary n v, PrepareOk m v (length l + 1)) (sent m low on_m ne)) q)
-    (λ k u off q. await_skip n up v l e base k u off q) goes.kept
+    (λ k u off q. await_skip n up v l e base k u off q) goes.preserved
     (record {
       result = inl (record {
         commit = c;

@@ -20,7 +20,7 @@ use Rattle.desk_view_change.specs.Choice.{new_view_with, choice}
 use Rattle.desk_node.specs.Rules.{step_of_change}
 use Rattle.desk_node.specs.Said.{acks, has_acked}
 use Rattle.desk_node.specs.State.{State}
-use Rattle.desk_world.proofs.ViewLog.{view_of, has_begun, told_start, told_log}
+use Rattle.desk_world.proofs.ViewLog.{view_of, has_begun, announced_start, announced_log}
 use Rattle.desk_world.specs.World.{messages}
 use Rattle.desk_log.proofs.Prefixes.{prefix_refl, prefix_trans, length-prefix, take_take-prefix}
 use Rattle.desk_log.proofs.Rising.{rising_prefix}
@@ -167,10 +167,10 @@ good_new_view domain n ps at i group k lead changing offers sent majority o b fi
     began : has_begun (ps ++ qs) v ≡ true
     began = ap (λ x. x.begun) views.here
 
-    first : told_start (ps ++ qs) v ≡ l
+    first : announced_start (ps ++ qs) v ≡ l
     first = ap (λ x. x.start) views.here
 
-    whole : told_log (ps ++ qs) v ≡ l
+    whole : announced_log (ps ++ qs) v ≡ l
     whole = ap (λ x. x.log) views.here
 
     given : OfferHolds n ps at b.node v o.normal o.commit o.log
@@ -213,7 +213,7 @@ good_new_view domain n ps at i group k lead changing offers sent majority o b fi
       older = given.older;
       from_begun = (view_grows ps qs o.normal).begun given.begun;
       keeps = rw ((view_grows ps qs o.normal).start given.begun, first) given.starts;
-      within = rw first (prefix_trans l (told_log ps o.normal) (told_log (ps ++ qs) o.normal) given.within
+      within = rw first (prefix_trans l (announced_log ps o.normal) (announced_log (ps ++ qs) o.normal) given.within
           ((view_grows ps qs o.normal).log given.begun));
       voters = λ j. has_offer (slice_index_or offers j None);
       quorum = majority;
@@ -239,11 +239,12 @@ good_new_view domain n ps at i group k lead changing offers sent majority o b fi
     view_here = record {
       made = λ _. made;
       own = λ m pos le. has_acked-new ps qs v m (primary n v) (acked m (omega (arith, le, ap length whole)));
-      rising = rw whole (rising_prefix l (told_log ps o.normal) given.within (k.views o.normal given.begun).rising);
+      rising = rw whole (rising_prefix l (announced_log ps o.normal) given.within
+          (k.views o.normal given.begun).rising);
       within = omega (
         arith,
         ap length whole,
-        length-prefix l (told_log ps o.normal) given.within,
+        length-prefix l (announced_log ps o.normal) given.within,
         (k.views o.normal given.begun).within,
       );
     }

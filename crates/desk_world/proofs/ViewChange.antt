@@ -88,7 +88,7 @@ safe_raise domain n ps at i w taken k fresh sent =
       committed = (saved_same s).committed;
       still = λ _ _. inr (refl, refl, refl);
     } in
-    let kept : NodeInvariant n ps i (in_view w s) = record {
+    let preserved : NodeInvariant n ps i (in_view w s) = record {
       order = omega (arith, own.order);
       within_log = own.within_log;
       begun = own.begun;
@@ -102,7 +102,7 @@ safe_raise domain n ps at i w taken k fresh sent =
       here = tt;
     } in
     good_safe domain n ps at i (at i).received c k
-    (good_plain domain n ps at i (step_of_change domain (at i).received c) k later kept
+    (good_plain domain n ps at i (step_of_change domain (at i).received c) k later preserved
     (λ p a. Contains-append_left ps (messages packets) p (sent p a))
     (fit_if n ps i s (in_view w s) (ltb s.view w) (to_others i n (StartViewChange i w))
     (λ _. fit_others n ps i s (in_view w s) (StartViewChange i w) quiet)) tt)
@@ -145,10 +145,11 @@ safe_offering domain n ps at i group k changing heard said =
     (λ t.
     safe_after domain n ps at i (at i).received s (q ∷ []) ((i, q) ∷ [])
     (choice i n s (with_offer i (own_offer s) heard).offers) first
-    (λ between kept e.
+    (λ between preserved e.
     let view : (between i).saved.view ≡ s.view = ap (λ (x : State). x.saved.view) e in
     let normal : (between i).saved.normal ≡ s.normal = ap (λ (x : State). x.saved.normal) e in
-    rw e at (safe_choice domain n (ps ++ q ∷ []) between i group kept (rw view (sym (eqb-true (primary n s.view) i t)))
+    rw e at (safe_choice domain n (ps ++ q ∷ []) between i group preserved
+    (rw view (sym (eqb-true (primary n s.view) i t)))
     (omega (arith, view, normal, changing))
     (with_offer i (own_offer s) heard).offers (rw view sent))))
     (λ _. safe_one_packet domain n ps at i (primary n s.view) q k (fit_offer n ps at i k changing))
@@ -188,13 +189,13 @@ safe_support domain n ps at i from w group k sent fresh ne heard said =
     safe_after domain n ps at i (at i).received (in_view w s) (p ∷ []) (view_requests i n s.view w)
     (if is_quorum_new i n heard.askers asked.askers then offering i n (in_view w s) asked else nothing (in_view w s))
     (safe_raise domain n ps at i w (p ∷ []) k fresh (taken_with ps (at i).received p (k.taken i) sent))
-    (λ between kept e.
+    (λ between preserved e.
     let view : (between i).saved.view ≡ w = ap (λ (x : State). x.saved.view) e in
     let normal : (between i).saved.normal ≡ s.normal = ap (λ (x : State). x.saved.normal) e in
     safe_if (is_quorum_new i n heard.askers asked.askers)
-    (λ _. rw e at (safe_offering domain n _ between i group kept
+    (λ _. rw e at (safe_offering domain n _ between i group preserved
     (omega (arith, view, normal, ne, (k.nodes i).order, fresh)) asked (rw e more)))
-    (λ _. rw e at (safe_nothing domain n _ between i kept)))
+    (λ _. rw e at (safe_nothing domain n _ between i preserved)))
 
 pub safe_start_view_change : (domain : List ℕ) (n : ℕ) (ps : List Message) (at : Nodes) (i from w : ℕ) → IsGroup n →
     GroupInvariant n ps at → Contains ps (StartViewChange from w) →
@@ -240,10 +241,10 @@ safe_do_view_change domain n ps at i from w u c l group k sent =
     safe_after domain n ps at i (at i).received (in_view w s) (p ∷ []) packets
     (choice i n (in_view w s) (with_offer from (record { normal = u; commit = c; log = l }) heard).offers)
     (safe_raise domain n ps at i w (p ∷ []) k o.0 taken)
-    (λ between kept e.
+    (λ between preserved e.
     let view : (between i).saved.view ≡ w = ap (λ (x : State). x.saved.view) e in
     let normal : (between i).saved.normal ≡ s.normal = ap (λ (x : State). x.saved.normal) e in
-    rw e at (safe_choice domain n (ps ++ messages packets) between i group kept
+    rw e at (safe_choice domain n (ps ++ messages packets) between i group preserved
     (rw view (eqb-true i (primary n w) (not-false (eqb i (primary n w)) d.1)))
     (omega (arith, view, normal, ne, (k.nodes i).order, o.0))
     (with_offer from (record { normal = u; commit = c; log = l }) heard).offers (rw view offered))))
@@ -258,7 +259,7 @@ safe_suspect domain n ps at i k =
     safe_after domain n ps at i (at i).received (in_view (s.view + 1) s) [] (view_requests i n s.view (s.view + 1))
     (nothing (in_view (s.view + 1) s))
     (safe_raise domain n ps at i (s.view + 1) [] k (omega arith) (nil_taken (at i).received (k.taken i)))
-    (λ between kept e. rw e at (safe_nothing domain n _ between i kept)))
+    (λ between preserved e. rw e at (safe_nothing domain n _ between i preserved)))
     (λ _. safe_nothing domain n ps at i k)
   where
     nil_taken : (rs : List Message) → ((p : Message) → Contains rs p → Contains ps p) → (p : Message) →
@@ -280,11 +281,11 @@ safe_view_change_resend domain n ps at i askers k changing =
     safe_after domain n ps at i (at i).received s [] packets
     (if b then one_packet s (primary n s.view) (offer_packet i s) else nothing s)
     (safe_same domain n ps at i k packets answers.Nothing (fit_others n ps i s s (StartViewChange i s.view) quiet) tt)
-    (λ between kept e.
+    (λ between preserved e.
     let view : (between i).saved.view ≡ s.view = ap (λ (x : State). x.saved.view) e in
     let normal : (between i).saved.normal ≡ s.normal = ap (λ (x : State). x.saved.normal) e in
     safe_if b
     (λ _. rw e at (safe_one_packet domain n (ps ++ messages packets) between i (primary n (between i).saved.view)
-    (offer_packet i (between i).saved) kept
-    (fit_offer n (ps ++ messages packets) between i kept (omega (arith, view, normal, changing)))))
-    (λ _. rw e at (safe_nothing domain n (ps ++ messages packets) between i kept)))
+    (offer_packet i (between i).saved) preserved
+    (fit_offer n (ps ++ messages packets) between i preserved (omega (arith, view, normal, changing)))))
+    (λ _. rw e at (safe_nothing domain n (ps ++ messages packets) between i preserved)))

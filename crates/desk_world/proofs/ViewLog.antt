@@ -36,8 +36,8 @@ view_of packets view = view_from view (view_start view) packets
 abbrev pub has_begun : List Message → ℕ → Bool
 has_begun packets view = (view_of packets view).begun
 
-abbrev pub told_start : List Message → ℕ → List Entry
-told_start packets view = (view_of packets view).start
+abbrev pub announced_start : List Message → ℕ → List Entry
+announced_start packets view = (view_of packets view).start
 
-abbrev pub told_log : List Message → ℕ → List Entry
-told_log packets view = (view_of packets view).log
+abbrev pub announced_log : List Message → ℕ → List Entry
+announced_log packets view = (view_of packets view).log

@@ -18,7 +18,7 @@ use Rattle.desk_log.proofs.Prefixes.{length-prefix, take-prefix}
 use Rattle.desk_world.proofs.NodeInvariants.{Nodes, PrepareHolds}
 use Rattle.desk_world.proofs.Invariant.{GroupInvariant}
 use Rattle.desk_world.proofs.Packets.{Contains-here, Contains-there, Contains-none, Contains-cases}
-use Rattle.desk_world.proofs.ViewLog.{ViewLog, view_start, view_from, has_begun, told_start, told_log}
+use Rattle.desk_world.proofs.ViewLog.{ViewLog, view_start, view_from, has_begun, announced_start, announced_log}
 use Rattle.desk_world.proofs.Views.{from_grows, view_starts}
 
 -- the start log
@@ -46,7 +46,7 @@ first_is w v (DoViewChange from x u c l ∷ ps) b s = first_is w v ps b s
 first_is w v (GetState from x c ∷ ps) b s = first_is w v ps b s
 first_is w v (NewState from x c d l ∷ ps) b s = first_is w v ps b s
 
-pub start_is : (ps : List Message) (w : ℕ) → spec.start_log ps w ≡ told_start ps w
+pub start_is : (ps : List Message) (w : ℕ) → spec.start_log ps w ≡ announced_start ps w
 start_is ps zero = sym ((from_grows 0 (view_start 0) ps).start refl)
 start_is ps (suc w) = first_is (suc w) (view_start (suc w)) ps (ne_eqb (suc w) 0 (λ e. omega (arith, e))) refl
 
@@ -253,34 +253,35 @@ not_begun w v (GetState from x c ∷ ps) b = not_begun w v ps b
 not_begun w v (NewState from x c d l ∷ ps) b = not_begun w v ps b
 
 log_within : (n : ℕ) (ps : List Message) (at : Nodes) → GroupInvariant n ps at → (w : ℕ) →
-    length (told_log ps w) ≤ LOG_ENTRIES
+    length (announced_log ps w) ≤ LOG_ENTRIES
 log_within n ps at k w = ⊎_elim
     (λ b. (k.views w b).within)
     (λ b.
-    let empty : length (told_log ps w) ≡ 0 = ap (λ (v : ViewLog). length v.log) (not_begun w (view_start w) ps b) in
+    let empty : length (announced_log ps w) ≡ 0 =
+    ap (λ (v : ViewLog). length v.log) (not_begun w (view_start w) ps b) in
     omega (arith, empty))
     (cases_Bool (has_begun ps w))
 
 place_is : (n : ℕ) (ps : List Message) (at : Nodes) → GroupInvariant n ps at → (w m : ℕ) →
-    length (told_start ps w) < m → spec.first_prepared ps w m ≡ at_most_one (entry_at (told_log ps w) m)
-place_is n ps at k w m far = by_place (cases_lt (length (told_log ps w)) m)
+    length (announced_start ps w) < m → spec.first_prepared ps w m ≡ at_most_one (entry_at (announced_log ps w) m)
+place_is n ps at k w m far = by_place (cases_lt (length (announced_log ps w)) m)
   where
-    stands : (es : List Entry) → (f : FirstPrepare ps w m es) → entry_at (told_log ps w) m ≡ Some f.entry
+    stands : (es : List Entry) → (f : FirstPrepare ps w m es) → entry_at (announced_log ps w) m ≡ Some f.entry
     stands es f = let r : PrepareHolds n ps f.from w m f.commit f.entry =
         k.packets (Prepare f.from w m f.commit f.entry) f.sent in r.stands
 
     here : (f : FirstPrepare ps w m (spec.first_prepared ps w m)) →
-        spec.first_prepared ps w m ≡ at_most_one (entry_at (told_log ps w) m)
+        spec.first_prepared ps w m ≡ at_most_one (entry_at (announced_log ps w) m)
     here f = f.is ∙ ap at_most_one (sym (stands (spec.first_prepared ps w m) f))
 
-    nothing_there : (o : Option Entry) → entry_at (told_log ps w) m ≡ o → length (told_log ps w) < m →
+    nothing_there : (o : Option Entry) → entry_at (announced_log ps w) m ≡ o → length (announced_log ps w) < m →
         [] ≡ at_most_one o
     nothing_there None e l = refl
-    nothing_there (Some x) e l = absurd (omega (arith, l, (entry_at_within (told_log ps w) m x e).1))
+    nothing_there (Some x) e l = absurd (omega (arith, l, (entry_at_within (announced_log ps w) m x e).1))
 
-    by_place : (length (told_log ps w) < m) ⊎ (m ≤ length (told_log ps w)) →
-        spec.first_prepared ps w m ≡ at_most_one (entry_at (told_log ps w) m)
-    by_place (inl l) = ⊎_elim (λ z. z ∙ nothing_there (entry_at (told_log ps w) m) refl l) (λ f. here f)
+    by_place : (length (announced_log ps w) < m) ⊎ (m ≤ length (announced_log ps w)) →
+        spec.first_prepared ps w m ≡ at_most_one (entry_at (announced_log ps w) m)
+    by_place (inl l) = ⊎_elim (λ z. z ∙ nothing_there (entry_at (announced_log ps w) m) refl l) (λ f. here f)
         (prepare_cases ps w m)
     by_place (inr l) =
         here (prepare_found ps w m (sent_from_place w (view_start w) ps m (omega (arith, far)) (λ _. far) l))
@@ -292,10 +293,10 @@ prefix_and_rest xs ys h = ap (λ es. es ++ drop (length xs) ys) (sym (take-prefi
 
 -- Both give one log in every world.
 pub log_is : (n : ℕ) (ps : List Message) (at : Nodes) → GroupInvariant n ps at → (w : ℕ) →
-    spec.log_of_view ps w ≡ told_log ps w
+    spec.log_of_view ps w ≡ announced_log ps w
 log_is n ps at k w =
-    let s : List Entry = told_start ps w in
-    let l : List Entry = told_log ps w in
+    let s : List Entry = announced_start ps w in
+    let l : List Entry = announced_log ps w in
     let starts : IsLogPrefix s l = view_starts ps w in
     let bound : length l ≤ length s + (LOG_ENTRIES - length s) =
     omega (arith, log_within n ps at k w, length-prefix s l starts) in

@@ -9,8 +9,8 @@ use Rattle.desk_types.specs.declared.packet.Message.{Message}
 use Rattle.desk_types.specs.declared.packet.Message.TheVariants.{Prepare, PrepareOk, Commit, StartViewChange}
 use Rattle.desk_types.specs.declared.packet.Message.TheVariants.{DoViewChange, StartView, GetState, NewState}
 use Rattle.desk_log.specs.Entries.{IsLogPrefix}
-use Rattle.desk_world.proofs.ViewLog.{ViewLog, view_start, view_after, view_from, view_of, has_begun, told_start}
-use Rattle.desk_world.proofs.ViewLog.{told_log}
+use Rattle.desk_world.proofs.ViewLog.{ViewLog, view_start, view_after, view_from, view_of, has_begun, announced_start}
+use Rattle.desk_world.proofs.ViewLog.{announced_log}
 use Rattle.desk_log.proofs.Prefixes.{prefix_refl, prefix_trans, prefix_append}
 use Rattle.desk_world.proofs.Packets.{Contains-here, Contains-there}
 
@@ -85,7 +85,7 @@ from_starts w v [] h = h
 from_starts w v (p ∷ ps) h = from_starts w (view_after w v p) ps (after_starts w v p h)
 
 -- A view's log begins with its start log.
-pub view_starts : (ps : List Message) (w : ℕ) → IsLogPrefix (told_start ps w) (told_log ps w)
+pub view_starts : (ps : List Message) (w : ℕ) → IsLogPrefix (announced_start ps w) (announced_log ps w)
 view_starts ps w = from_starts w (view_start w) ps tt
 
 -- A packet that tells nothing new: a StartView of a view that has started, or a Prepare of a place in its log.
@@ -134,8 +134,9 @@ view_same ps qs w h = view_of-append ps qs w ∙ from_same w (view_of ps w) qs h
 -- The Prepare of the next place, sent with a PrepareOk, lengthens the view's log.
 pub view_longer : (ps : List Message) (ok : Message) (p : Message) (qs : List Message) (w j x k i m c : ℕ) (e : Entry) →
     ok ≡ PrepareOk j x k → p ≡ Prepare i w m c e →
-    has_begun ps w ≡ true → m ≡ length (told_log ps w) + 1 → ((q : Message) → Contains qs q → q ≡ p) →
-    view_of (ps ++ ok ∷ p ∷ qs) w ≡ record { begun = true; start = told_start ps w; log = told_log ps w ++ e ∷ [] }
+    has_begun ps w ≡ true → m ≡ length (announced_log ps w) + 1 → ((q : Message) → Contains qs q → q ≡ p) →
+    view_of (ps ++ ok ∷ p ∷ qs) w ≡ record
+    { begun = true; start = announced_start ps w; log = announced_log ps w ++ e ∷ [] }
 view_longer ps ok p qs w j x k i m c e is_ok is b next h =
     let v : ViewLog = view_of ps w in
     let u : ViewLog = record { begun = v.begun; start = v.start; log = v.log ++ e ∷ [] } in

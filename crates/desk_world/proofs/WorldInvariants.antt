@@ -29,13 +29,13 @@ use Rattle.desk_types.specs.Group.{IsGroup}
 
 pub record WorldInvariant (domain : List ℕ) (n : ℕ) (w : World) : Type 0 where
   pub count : length w.nodes ≡ n
-  pub kept : GroupInvariant n (messages w.packets) (node_of_world w)
+  pub preserved : GroupInvariant n (messages w.packets) (node_of_world w)
   pub answered : (i : ℕ) (answer : Outcome) → Contains w.answers (i, answer) →
       IsCommittedAnswer domain (node_of_world w i).saved answer
 
 -- A world goes on to another.
 pub record Next (domain : List ℕ) (n : ℕ) (w later : World) : Type 0 where
-  pub kept : WorldInvariant domain n later
+  pub preserved : WorldInvariant domain n later
   pub grows : NodesLater (node_of_world w) (node_of_world later)
   -- What was sent in between comes last.
   pub more : List Message
@@ -43,7 +43,7 @@ pub record Next (domain : List ℕ) (n : ℕ) (w later : World) : Type 0 where
 
 next_same : (domain : List ℕ) (n : ℕ) (w : World) → WorldInvariant domain n w → Next domain n w w
 next_same domain n w k = record {
-  kept = k;
+  preserved = k;
   grows = λ j. saved_same (node_of_world w j).saved;
   more = [];
   packets_are =
@@ -73,9 +73,9 @@ next_step domain n w i step k small s =
     let all : messages w.packets ++ messages step.packets ≡ messages (w.packets ++ step.packets) =
     sym (map-append (λ (x : ℕ × Message). x.1) w.packets step.packets) in
     record {
-      kept = record {
+      preserved = record {
         count = length-set w.nodes i step.node ∙ k.count;
-        kept = rw all at (s.kept (node_of_world later) moved);
+        preserved = rw all at (s.preserved (node_of_world later) moved);
         answered = λ j answer c. ⊎_elim
             (λ old. IsCommittedAnswer-later domain (node_of_world w j).saved (node_of_world later j).saved answer
             (grows j).committed
@@ -99,7 +99,7 @@ next_comes domain n w i event group k sent (Some node) e =
     let small : i < n = omega (arith, k.count) in
     let same : node_of_world w i ≡ node = get_or_from_slice_get w.nodes i node first_state e in
     next_step domain n w i (node_step domain i n node event) k small
-    (rw same at (safe_step domain n (messages w.packets) (node_of_world w) i group k.kept small event sent))
+    (rw same at (safe_step domain n (messages w.packets) (node_of_world w) i group k.preserved small event sent))
 
 pub messages_at : (ss : List (ℕ × Message)) (s : ℕ × Message) → Contains ss s → Contains (messages ss) s.1
 messages_at [] s c = absurd (Contains-none s c)
@@ -137,9 +137,9 @@ next_run domain n w group k [] = next_same domain n w k
 next_run domain n w group k (e ∷ es) =
     let one : Next domain n w (world_after domain n w e) = next_happens domain n w group k e in
     let rest : Next domain n (world_after domain n w e) (world_from domain n (world_after domain n w e) es) =
-    next_run domain n (world_after domain n w e) group one.kept es in
+    next_run domain n (world_after domain n w e) group one.preserved es in
     record {
-      kept = rest.kept;
+      preserved = rest.preserved;
       grows = λ j. saved_trans _ _ _ (one.grows j) (rest.grows j);
       more = one.more ++ rest.more;
       packets_are = rest.packets_are
@@ -173,7 +173,7 @@ pub start_invariant : (domain : List ℕ) (n : ℕ) → WorldInvariant domain n 
 unfolding first_world
 start_invariant domain n = record {
   count = length-replicate n first_state;
-  kept = record {
+  preserved = record {
     views = λ w b. record {
       made = λ pos. absurd (let z : w ≡ 0 = eqb-true w 0 b in omega arith);
       own = λ m pos l. absurd (omega arith);

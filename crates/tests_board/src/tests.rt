@@ -102,7 +102,7 @@ fn shown(alloc: Global, board: &Board, show: &Show) -> Option<String> {
 
 /// The reply line of a document with these members, if memory for all is there. The number of a request is that of its
 /// place, where the members do not say another.
-fn told(alloc: Global, board: &mut Board, members: &str) -> Option<String> {
+fn reported(alloc: Global, board: &mut Board, members: &str) -> Option<String> {
     match asked(alloc, board.len().saturating_add(1), members) {
         Ok(Ask::Command(entry)) => {
             let line = applied(alloc, board, &entry);
@@ -152,7 +152,7 @@ fn answered(alloc: Global, board: &mut Board, asked: &str) -> Option<String> {
         "latest of 7" => latest_text(alloc, board, 7),
         "latest of 8" => latest_text(alloc, board, 8),
         "latest of 9" => latest_text(alloc, board, 9),
-        members => told(alloc, board, members),
+        members => reported(alloc, board, members),
     }
 }
 
@@ -161,7 +161,7 @@ fn is_said(text: &str, lines: &str) -> bool {
     let mut rest = text.as_bytes();
     for line in lines.lines() {
         match rest.strip_prefix(line.trim().as_bytes()) {
-            Some(behind) => rest = behind,
+            Some(after) => rest = after,
             None => return false,
         }
     }

@@ -5,7 +5,7 @@ mod browsers;
 mod script;
 mod status;
 
-use script::{Answer, is_given_up, is_told};
+use script::{Answer, is_given_up, is_reported};
 
 const DONE: Answer = Some("{\"number\":1,\"ok\":\"cleared\",\"place\":1,\"session\":7}\n");
 
@@ -63,7 +63,7 @@ const ROWS: &[(&[Answer], &[u8], &[u64])] = &[
 #[test]
 fn asks_again(rt: HostRuntime) {
     for (answers, asked, pauses) in ROWS {
-        assert!(rt; is_told(rt.alloc(), answers, asked, pauses));
+        assert!(rt; is_reported(rt.alloc(), answers, asked, pauses));
     }
 }
 
@@ -84,7 +84,7 @@ const FINAL: &[&str] = &[
 #[test]
 fn tells_final_replies(rt: HostRuntime) {
     for reply in FINAL {
-        assert!(rt; is_told(rt.alloc(), &[Some(*reply)], &[0], &[]));
+        assert!(rt; is_reported(rt.alloc(), &[Some(*reply)], &[0], &[]));
     }
 }
 

@@ -1,7 +1,7 @@
 use Rattle.desk_epoch_node.proofs.EpochEnds.{ends_by_count, suspicions_lead}
 use Rattle.desk_epoch_node.proofs.OneLogRequests.{requests_meet_one_log}
-use Rattle.desk_epoch_node.proofs.KeptHistories.{beginnings_keep, steps_keep}
-use Rattle.desk_epoch_node.proofs.ToldLogs.{telling_serves}
+use Rattle.desk_epoch_node.proofs.PreservedHistories.{beginnings_keep, steps_keep}
+use Rattle.desk_epoch_node.proofs.ReportedLogs.{telling_serves}
 use Rattle.desk_epoch_node.proofs.laws.Goals as goal
 
 pub returns-clause-ends : goal.returns-clause-ends

@@ -165,11 +165,11 @@ pub(super) fn events_in(alloc: Global, script: &[u8]) -> Result<Vec<WorldEvent>,
     let mut rest = script;
     let mut number = 1;
     while !rest.is_empty() {
-        let (line, behind) = first_line(rest);
+        let (line, beyond) = first_line(rest);
         if !take_line(alloc, line, &mut arena, &mut events)? {
             return Err(WorldFault::NoEvent { line: number });
         }
-        rest = behind;
+        rest = beyond;
         number += 1;
     }
     Ok(events)

@@ -3,7 +3,7 @@
 
 use super::line::Line;
 use super::plain::{Answer, Asked, HANDED_IN, PlainBoard, Subject};
-use super::{empty_board, latest_text, told};
+use super::{empty_board, latest_text, reported};
 use desk_board::Board;
 use std::alloc::Global;
 
@@ -149,14 +149,14 @@ fn next_asked(random: &mut Random, plain: &PlainBoard) -> Asked {
 /// Whether a text is a line with these members in braces, and a newline.
 fn has_members(text: &str, members: &str) -> bool {
     match text.strip_prefix("{") {
-        Some(behind) => behind.strip_suffix("}\n") == Some(members),
+        Some(after) => after.strip_suffix("}\n") == Some(members),
         None => false,
     }
 }
 
 /// Whether a document with these members gets a line of the board with those.
 fn is_alike(alloc: Global, board: &mut Board, members: Line, wanted: Line) -> bool {
-    let is_alike = match told(alloc, board, members.as_str()) {
+    let is_alike = match reported(alloc, board, members.as_str()) {
         Some(text) => has_members(text.as_str(), wanted.as_str()),
         None => false,
     };
@@ -239,10 +239,10 @@ fn is_named_alike(
     board: &mut Board,
     plain: &PlainBoard,
     asked: &Asked,
-    told: u64,
+    reported: u64,
 ) -> bool {
-    let incident = if told > 0 {
-        told
+    let incident = if reported > 0 {
+        reported
     } else {
         asked.incident.max(1)
     };
@@ -274,9 +274,9 @@ fn tells_latest(alloc: Global, text: &str, latest: Option<Answer>) -> bool {
     match text.split_once(" ") {
         Some((place, line)) => {
             let wanted = answer.line(alloc);
-            let is_told = has_members(line, wanted.as_str());
+            let is_reported = has_members(line, wanted.as_str());
             drop(wanted);
-            is_told && place.parse() == Ok(answer.place)
+            is_reported && place.parse() == Ok(answer.place)
         }
         None => false,
     }

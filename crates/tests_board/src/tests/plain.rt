@@ -139,18 +139,18 @@ impl PlainBoard {
     pub(super) fn answer(&mut self, asked: &Asked) -> Answer {
         self.count = self.count.saturating_add(1);
         let (done, checks) = rule_of(asked.verb);
-        let mut told = self.first_refusal(asked, checks);
-        if told.0 == 0 {
-            told.1 = self.perform(asked);
+        let mut reported = self.first_refusal(asked, checks);
+        if reported.0 == 0 {
+            reported.1 = self.perform(asked);
         }
         let answer = Answer {
             client: asked.client,
             place: self.count,
             done,
-            refusal: told.0,
-            incident: told.1,
+            refusal: reported.0,
+            incident: reported.1,
         };
-        let _kept = self.answers.push(answer);
+        let _pushed = self.answers.push(answer);
         answer
     }
 

@@ -5,7 +5,7 @@ use desk_types::{ClientId, Outcome, Refusal, RequestNumber, Shown, Status, UnitN
 use std::alloc::Global;
 
 /// Whether an outcome is told by this line, which ends with a newline.
-fn is_told(alloc: Global, outcome: Outcome, line: &str) -> bool {
+fn is_reported(alloc: Global, outcome: Outcome, line: &str) -> bool {
     is_line(line_of(alloc, outcome), line)
 }
 
@@ -18,7 +18,7 @@ fn is_node_told(alloc: Global, number: u64, refusal: Refusal, line: &str) -> Opt
         number,
         refusal,
     };
-    Some(is_told(alloc, outcome, line))
+    Some(is_reported(alloc, outcome, line))
 }
 
 #[test]
@@ -27,9 +27,9 @@ fn refusals_of_nodes_are_told(rt: HostRuntime) {
     let line = r#"{"node":2,"number":1,"refusal":30,"session":7,"view":4}"#;
     assert!(rt; is_node_told(rt.alloc(), 1, not_primary, line) == Some(true));
     let stopped = Outcome::Document(Refusal::NodeStopped);
-    assert!(rt; is_told(rt.alloc(), stopped, r#"{"refusal":34}"#));
+    assert!(rt; is_reported(rt.alloc(), stopped, r#"{"refusal":34}"#));
     let want_of_memory = Outcome::Document(Refusal::WantOfMemory);
-    assert!(rt; is_told(rt.alloc(), want_of_memory, r#"{"refusal":40}"#));
+    assert!(rt; is_reported(rt.alloc(), want_of_memory, r#"{"refusal":40}"#));
 }
 
 // The statuses of which a unit has one only while it is committed, and the lines that would show it uncommitted.
@@ -63,7 +63,7 @@ fn is_unit_shown(alloc: Global, status: Status, line: &str) -> Option<bool> {
         incident: None,
         stand_by: None,
     };
-    Some(is_told(alloc, Outcome::Board { client, shown }, line))
+    Some(is_reported(alloc, Outcome::Board { client, shown }, line))
 }
 
 #[test]

@@ -116,7 +116,7 @@ fn word(step: &EpochStep) -> (&'static str, u64) {
             Refusal::Stale { latest } => ("stale", *latest),
             _ => ("refused", 0),
         },
-        EpochStep::Kept(_) => ("kept", 0),
+        EpochStep::Deferred(_) => ("kept", 0),
         EpochStep::Ask { to, .. } => ("ask", *to as u64),
         EpochStep::Tell { base, .. } => ("tell", *base),
         EpochStep::Began { log, .. } => ("began", log.len()),

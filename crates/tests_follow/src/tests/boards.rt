@@ -47,7 +47,7 @@ fn shared_page<R: Wait>(
     let shared = SharedPage::new(follower(alloc, &[]), follower(alloc, &[]));
     let mut reader = follower(alloc, lists);
     for _ in 0..lists.len() {
-        let (back, _told) = publish_listed(rt, alloc, &shared, reader, 1);
+        let (back, _reported) = publish_listed(rt, alloc, &shared, reader, 1);
         reader = back;
     }
     shared

@@ -59,25 +59,25 @@ impl<'a> Nodes for Scripted<'a> {
 
     fn pause(self, milliseconds: u64) -> (Scripted<'a>, bool) {
         let mut nodes = self;
-        let is_kept = nodes.pauses.push(milliseconds).is_ok();
+        let is_preserved = nodes.pauses.push(milliseconds).is_ok();
         let more = nodes.asked.len() < nodes.answers.len();
-        (nodes, is_kept && more)
+        (nodes, is_preserved && more)
     }
 }
 
 /// Whether a line that is answered so is asked at these nodes, with these pauses between, and the last answer is told.
-pub(super) fn is_told(alloc: Global, answers: &[Answer], asked: &[u8], pauses: &[u64]) -> bool {
+pub(super) fn is_reported(alloc: Global, answers: &[Answer], asked: &[u8], pauses: &[u64]) -> bool {
     let (mut input, mut output) = ("{}\n".as_bytes(), Vec::new(alloc));
     let follower = Follower::new(Scripted::new(alloc, answers), 3);
     let (follower, outcome) = follow_lines(alloc, &mut input, &mut output, follower);
-    let told = match answers.last() {
+    let reported = match answers.last() {
         Some(Some(reply)) => output.as_slice() == reply.as_bytes(),
         _ => false,
     };
     let is_so = follower.nodes.asked.as_slice() == asked
         && follower.nodes.pauses.as_slice() == pauses;
     drop(follower);
-    outcome.is_ok() && told && is_so
+    outcome.is_ok() && reported && is_so
 }
 
 /// Whether a line that is answered so is given up, and nothing is told.

@@ -74,7 +74,7 @@ fn is_so(alloc: Global, answers: &[NodeAnswer], lines: &[&str], status: u8) -> b
     let mut rest = output.as_slice();
     for line in lines {
         match rest.strip_prefix(line.as_bytes()) {
-            Some(behind) => rest = behind,
+            Some(after) => rest = after,
             None => return false,
         }
     }

@@ -92,7 +92,7 @@ fn no_bit_of_a_hello_or_proof_may_be_another(rt: HostRuntime) {
 }
 
 /// Whether the end that dials keeps its proof where a bit of the challenge is turned.
-fn is_kept(alloc: Global, said: &Transcript, place: usize, bit: u32) -> bool {
+fn is_preserved(alloc: Global, said: &Transcript, place: usize, bit: u32) -> bool {
     match turned(alloc, said.answered.as_slice(), place, bit) {
         Ok(bytes) => initiated(alloc, DIALS, &peers(), 0, bytes.as_slice()).failed(
             NotAdmitted::NoProof,
@@ -107,7 +107,10 @@ fn no_bit_of_a_challenge_may_be_another(rt: HostRuntime) {
     let said = honest(rt.alloc());
     for place in 0..64 {
         for bit in 0..8 {
-            assert!(rt; is_kept(rt.alloc(), &said, place, bit), "{place} {bit}");
+            assert!(rt;
+                is_preserved(rt.alloc(), &said, place, bit),
+                "{place} {bit}"
+            );
         }
     }
 }

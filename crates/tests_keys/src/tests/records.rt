@@ -228,7 +228,7 @@ const NO_LENGTHS: &[&[u8]] = &[
 ];
 
 /// A length, and so many bytes after it, all of them 0.
-fn behind_length(alloc: Global, length: &[u8], count: usize) -> Result<Vec<u8>, Fail> {
+fn place_after_length(alloc: Global, length: &[u8], count: usize) -> Result<Vec<u8>, Fail> {
     let mut bytes = Vec::new(alloc);
     for byte in length.iter() {
         bytes.push(*byte)?;
@@ -242,7 +242,7 @@ fn behind_length(alloc: Global, length: &[u8], count: usize) -> Result<Vec<u8>, 
 #[test]
 fn a_length_that_no_record_has_ends_it(rt: HostRuntime) -> Result<(), Fail> {
     for (index, length) in NO_LENGTHS.iter().enumerate() {
-        let bytes = behind_length(rt.alloc(), length, 70_000)?;
+        let bytes = place_after_length(rt.alloc(), length, 70_000)?;
         assert!(rt; gives(rt.alloc(), bytes.as_slice(), b"", false), "{index}");
     }
     Ok(())
@@ -250,15 +250,15 @@ fn a_length_that_no_record_has_ends_it(rt: HostRuntime) -> Result<(), Fail> {
 
 /// What each of five reads gives, or 255 for a fault.
 fn five_reads(opened: &mut Opened<Source<'_>>) -> [u8; 5] {
-    let mut told = [0; 5];
+    let mut reported = [0; 5];
     for read in 0..5 {
         let mut room = [0; 100];
-        told[read] = match opened.read(&mut room) {
+        reported[read] = match opened.read(&mut room) {
             Ok(count) => count as u8,
             Err(_) => 255,
         };
     }
-    told
+    reported
 }
 
 #[test]
@@ -274,23 +274,23 @@ fn nothing_is_given_behind_a_wrong_record(rt: HostRuntime) -> Result<(), Fail> {
 /// Writes three payloads over a writer of which one call fails: which of the writes passed.
 fn written(alloc: Global, sink: &mut Sink) -> Result<[bool; 3], AllocError> {
     let mut sealed = Sealed::new(alloc, sink, HmacKey::new(&[TOWARD; 32]))?;
-    let mut told = [false; 3];
+    let mut reported = [false; 3];
     for number in 0..3 {
-        told[number] = sealed.write(PAYLOADS[number]).is_ok();
+        reported[number] = sealed.write(PAYLOADS[number]).is_ok();
     }
-    Ok(told)
+    Ok(reported)
 }
 
 /// Whether a writer that takes ten bytes a call, of which one fails, leaves whole records and a part of one.
 fn is_broken_off(alloc: Global, passing: u64) -> Result<bool, AllocError> {
     let mut sink = Sink::in_pieces(Vec::new(alloc), 10);
     sink.calls = Calls::one_fails(passing);
-    let told = written(alloc, &mut sink)?;
-    let right = told.iter().filter(|passed| **passed).count();
+    let reported = written(alloc, &mut sink)?;
+    let right = reported.iter().filter(|passed| **passed).count();
     let taken = copied(alloc, sink.bytes.as_slice())?;
     let is_whole = taken.is_empty() || ENDS.contains(&taken.len());
     let before = piece(ALL, 0, bytes_before(right));
-    Ok(gives(alloc, taken.as_slice(), before, is_whole) && !told[2])
+    Ok(gives(alloc, taken.as_slice(), before, is_whole) && !reported[2])
 }
 
 #[test]

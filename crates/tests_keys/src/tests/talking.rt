@@ -25,7 +25,7 @@ impl Spoken {
     pub fn failed(&self, fault: NotAdmitted, sent: usize) -> bool {
         match &self.outcome {
             Ok(_) => false,
-            Err(told) => *told == fault && self.sent.len() == sent,
+            Err(reported) => *reported == fault && self.sent.len() == sent,
         }
     }
 }

@@ -252,9 +252,9 @@ pub(super) fn end_keeper<B: BoardName, S: StateStore + Drop, R: Wait>(
     rt: &R,
     keeper: Keeper<B, S>,
 ) -> S {
-    let (taker, kept, store) = keeper.end(rt);
+    let (taker, preserved, store) = keeper.end(rt);
     drop(taker);
-    drop(kept);
+    drop(preserved);
     store
 }
 

@@ -1,14 +1,14 @@
 //! A keeper of node 0 of three with its last session, all in this thread. Node 1 answers by hand.
 
 ghost use Rattle.std.specs.Prelude.{◌≡◌, false, IfOk, IfErr};
-ghost use Rattle.desk_sessions.specs.Exchanges.{IsNoTold};
+ghost use Rattle.desk_sessions.specs.Exchanges.{IsNoWord};
 
 use super::keeping::{Held, Keeps, Made, SESSION, Sent, Stand, Way, answer_of_node_1};
 use super::opening::{open_at, open_store};
 use crossbeam_channel::Receiver;
 use crossbeam_utils::rule::Protocol;
 use desk_log::StateStore;
-use desk_published::{NextEntry, PrefixRule, PublishedBoard, SeatView, Told, ToldWord};
+use desk_published::{NextEntry, PrefixRule, PublishedBoard, Reported, ReportedWord, SeatView};
 use desk_saved::SavedState;
 use desk_sessions::{Line, NoGate, Session, serve_session};
 use desk_threads::limits::WAITING_TICKS;
@@ -39,12 +39,12 @@ pub(super) enum Heard {
 }
 
 /// What a word tells.
-fn heard_of<B: BoardName>(told: Option<Told<B>>) -> Heard {
-    match told {
+fn heard_of<B: BoardName>(reported: Option<Reported<B>>) -> Heard {
+    match reported {
         None => Heard::Nothing,
-        Some(told) => match told.word() {
-            ToldWord::Published(_) => Heard::Published,
-            ToldWord::Refused(refusal) => Heard::Refused(refusal.number()),
+        Some(reported) => match reported.word() {
+            ReportedWord::Published(_) => Heard::Published,
+            ReportedWord::Refused(refusal) => Heard::Refused(refusal.number()),
         },
     }
 }
@@ -179,7 +179,7 @@ where
     PrefixRule: Protocol<PublishedBoard<B>, SeatView>,
 {
     keeper: K,
-    words: Receiver<Told<B>>,
+    words: Receiver<Reported<B>>,
     way: Way,
 }
 
@@ -235,7 +235,7 @@ fn do_request<K: Keeps>(keeper: K, request: Item, way: Way) -> K {
 }
 
 /// The word that waits for a session, if there is one.
-fn next_word<B: BoardName, W: Wait>(rt: &W, words: &Receiver<Told<B>>) -> Option<Told<B>> {
+fn next_word<B: BoardName, W: Wait>(rt: &W, words: &Receiver<Reported<B>>) -> Option<Reported<B>> {
     words.try_recv(rt).ok()
 }
 
@@ -243,12 +243,12 @@ fn next_word<B: BoardName, W: Wait>(rt: &W, words: &Receiver<Told<B>>) -> Option
 fn await_word<B: BoardName, K: Keeps, W: Wait>(
     rt: &W,
     keeper: K,
-    words: &Receiver<Told<B>>,
-) -> (K, Option<Told<B>>) {
+    words: &Receiver<Reported<B>>,
+) -> (K, Option<Reported<B>>) {
     let mut keeper = keeper;
     for turn in 0..TURNS {
-        if let Some(told) = next_word(rt, words) {
-            return (keeper, Some(told));
+        if let Some(reported) = next_word(rt, words) {
+            return (keeper, Some(reported));
         }
         keeper = take_turn(keeper, turn);
     }
@@ -257,15 +257,17 @@ fn await_word<B: BoardName, K: Keeps, W: Wait>(
 
 /// The word, where it is that of this request.
 fn word_of<B: BoardName>(
-    told: Option<Told<B>>,
+    reported: Option<Reported<B>>,
     client: ClientId,
     number: RequestNumber,
-) -> Result<Told<B>, Refusal>
-    ensures told { IfOk result (λ t. (t.client ≡ client) × (t.number ≡ number)) }
-    ensures refused { IfErr result IsNoTold }
+) -> Result<Reported<B>, Refusal>
+    ensures reported { IfOk result (λ t. (t.client ≡ client) × (t.number ≡ number)) }
+    ensures refused { IfErr result IsNoWord }
 {
-    match told {
-        Some(told) if told.client() == client && told.number() == number => Ok(told),
+    match reported {
+        Some(reported) if reported.client() == client && reported.number() == number => Ok(
+            reported,
+        ),
         _ => Err(Refusal::NodeStopped),
     }
 }
@@ -275,9 +277,9 @@ impl<B: BoardName, K: Keeps> Line<B> for NearLine<B, K> {
 
     ghost exchanged = { λ l. None };
 
-    ghost kept = { λ _. tt };
+    ghost preserved = { λ _. tt };
 
-    fn ask<W: Wait>(self, rt: &W, entry: Entry) -> (NearLine<B, K>, Result<Told<B>, Refusal>) {
+    fn ask<W: Wait>(self, rt: &W, entry: Entry) -> (NearLine<B, K>, Result<Reported<B>, Refusal>) {
         let NearLine { keeper, words, way } = self;
         let (client, number) = (entry.client, entry.number);
         let request = Item::Request {
@@ -285,9 +287,9 @@ impl<B: BoardName, K: Keeps> Line<B> for NearLine<B, K> {
             entry,
         };
         let keeper = do_request(keeper, request, way);
-        let (keeper, told) = await_word(rt, keeper, &words);
-        let told = word_of(told, client, number);
-        (NearLine { keeper, words, way }, told)
+        let (keeper, reported) = await_word(rt, keeper, &words);
+        let reported = word_of(reported, client, number);
+        (NearLine { keeper, words, way }, reported)
     }
 }
 

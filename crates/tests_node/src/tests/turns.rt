@@ -141,9 +141,9 @@ fn done<R: Wait + Drop + Copy>(
 fn turns_hand_out_and_tell_what_their_items_make_one_by_one(rt: HostRuntime) {
     let alloc = rt.alloc();
     for &(items, most, wanted, heard) in ROWS {
-        let (order, told) = done(rt, alloc, items, most).unwrap_or((0, Heard::Nothing));
+        let (order, reported) = done(rt, alloc, items, most).unwrap_or((0, Heard::Nothing));
         assert!(rt; order == wanted, "{most}: {order}");
-        assert!(rt; told == heard, "{most}: {order}");
+        assert!(rt; reported == heard, "{most}: {order}");
     }
 }
 

@@ -77,13 +77,13 @@ fn is_as_told(alloc: Global, log: &mut Log) -> bool {
 // One log for all, since making one takes seconds.
 #[test]
 fn a_full_log_is_read_and_takes_no_entry(rt: HostRuntime) {
-    let is_told = match full_log(rt.alloc()) {
+    let is_reported = match full_log(rt.alloc()) {
         Some(mut log) => {
-            let is_told = is_as_told(rt.alloc(), &mut log);
+            let is_reported = is_as_told(rt.alloc(), &mut log);
             drop(log);
-            is_told
+            is_reported
         }
         None => false,
     };
-    assert!(rt; is_told);
+    assert!(rt; is_reported);
 }

@@ -59,8 +59,8 @@ fn has_clients(alloc: Global, requests: &[Request], wanted: &[(u64, u64, u64)]) 
     let rows = log.clients().ok()?;
     let mut is_same = rows.len() == wanted.len();
     for (row, &(client, number, place)) in rows.as_slice().iter().zip(wanted) {
-        let is_told = row.client.get() == client && row.number.get() == number;
-        is_same = is_same && is_told && row.place == place;
+        let is_reported = row.client.get() == client && row.number.get() == number;
+        is_same = is_same && is_reported && row.place == place;
     }
     Some(is_same)
 }

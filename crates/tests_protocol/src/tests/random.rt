@@ -121,8 +121,8 @@ fn put_drawn_numbers(bytes: &mut Vec<u8>, random: &mut Random, kind: u8, drawn: 
         5 => put_numbers(bytes, &[view, normal, commit.min(whole)]),
         6 => put_numbers(bytes, &[view, commit.min(whole)]),
         8 => {
-            let told = commit.max(last).saturating_sub(random.below(2));
-            put_numbers(bytes, &[view, commit, told])
+            let reported = commit.max(last).saturating_sub(random.below(2));
+            put_numbers(bytes, &[view, commit, reported])
         }
         _ => put_numbers(bytes, &[view, commit]),
     }

@@ -148,7 +148,7 @@ const SAVED: &[((u64, u64, u64), &[Request])] = &[
 ];
 
 /// Saves a state, and gives whether the last one is that state then. `None` where memory is refused.
-fn is_kept(
+fn is_preserved(
     store: &mut MemoryStore,
     saved: &Saved,
     numbers: (u64, u64, u64),
@@ -166,7 +166,7 @@ pub fn kept_states(alloc: Global) -> Option<usize> {
         let Some(saved) = saved_of(alloc, *numbers, requests) else {
             return Some(before);
         };
-        match is_kept(&mut store, &saved, *numbers, requests) {
+        match is_preserved(&mut store, &saved, *numbers, requests) {
             Some(true) => {}
             Some(false) => return None,
             None => return Some(before),

@@ -100,10 +100,16 @@ fn answer_parts(answer: &Outcome) -> (Numbers, &str) {
             number,
             reply,
         } => {
-            let (told, opened) = reply_parts(reply);
+            let (reported, opened) = reply_parts(reply);
             let client = ("client", client.get());
             (
-                [client, ("number", number.get()), told[0], told[1], told[2]],
+                [
+                    client,
+                    ("number", number.get()),
+                    reported[0],
+                    reported[1],
+                    reported[2],
+                ],
                 opened,
             )
         }
@@ -112,10 +118,16 @@ fn answer_parts(answer: &Outcome) -> (Numbers, &str) {
             number,
             refusal,
         } => {
-            let told = refusal_numbers(refusal);
+            let reported = refusal_numbers(refusal);
             let client = ("client", client.get());
             (
-                [client, ("number", number.get()), told[0], told[1], told[2]],
+                [
+                    client,
+                    ("number", number.get()),
+                    reported[0],
+                    reported[1],
+                    reported[2],
+                ],
                 "",
             )
         }

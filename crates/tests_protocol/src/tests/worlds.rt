@@ -174,20 +174,20 @@ impl Group {
         let client = self.random.below(4).saturating_add(1);
         let number = self.events.len() as u64 + 1
             - self.random.below(3).min(self.events.len() as u64);
-        let told = entry(self.alloc, client, number)?;
-        self.events.push(WorldEvent::Request(i, told)).ok()?;
+        let reported = entry(self.alloc, client, number)?;
+        self.events.push(WorldEvent::Request(i, reported)).ok()?;
         self.act(i, Event::Request(entry(self.alloc, client, number)?))
     }
 
     /// A node sends again, suspects its primary or starts again.
     fn tick(&mut self, kind: u64) -> Option<bool> {
         let i = self.any_node();
-        let (told, event) = match kind {
+        let (reported, event) = match kind {
             900..=989 => (WorldEvent::Resend(i), Event::Resend),
             990..=994 => (WorldEvent::Suspect(i), Event::Suspect),
             _ => (WorldEvent::Restart(i), Event::Restart),
         };
-        self.events.push(told).ok()?;
+        self.events.push(reported).ok()?;
         self.act(i, event)
     }
 

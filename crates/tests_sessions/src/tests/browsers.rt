@@ -2,7 +2,7 @@
 
 ghost use Rattle.std.specs.Prelude.{◌≡◌};
 
-use desk_published::{BoardName, BoardReader, BoardWriter, NewHistory, Told};
+use desk_published::{BoardName, BoardReader, BoardWriter, NewHistory, Reported};
 use desk_sessions::{Line, NoGate, Session, serve_session};
 use desk_types::{Domain, Entry, Refusal, WantOfMemory};
 use std::alloc::Global;
@@ -42,9 +42,9 @@ impl<B: BoardName> Line<B> for NotedLine {
 
     ghost exchanged = { λ l. None };
 
-    ghost kept = { λ _. tt };
+    ghost preserved = { λ _. tt };
 
-    fn ask<R: Wait>(self, _rt: &R, entry: Entry) -> (NotedLine, Result<Told<B>, Refusal>) {
+    fn ask<R: Wait>(self, _rt: &R, entry: Entry) -> (NotedLine, Result<Reported<B>, Refusal>) {
         drop(self);
         drop(entry);
         (NotedLine { is_asked: true }, Err(Refusal::NodeStopped))

@@ -14,7 +14,7 @@ const TURNS: u64 = 10_000;
 pub(super) struct Flag {
     is_raised: AtomicBool,
     /// Who raised it was told the place `seen`.
-    is_told: AtomicBool,
+    is_reported: AtomicBool,
     seen: AtomicU64,
     /// A session went on, though the flag was not raised.
     is_given_up: AtomicBool,
@@ -26,7 +26,7 @@ impl Flag {
     pub(super) fn new() -> Flag {
         Flag {
             is_raised: AtomicBool::new(false),
-            is_told: AtomicBool::new(false),
+            is_reported: AtomicBool::new(false),
             seen: AtomicU64::new(0),
             is_given_up: AtomicBool::new(false),
             answers: AtomicU64::new(0),
@@ -37,14 +37,14 @@ impl Flag {
     pub(super) fn raise(&self, place: Option<u64>) {
         if let Some(place) = place {
             self.seen.store(place, Ordering::SeqCst);
-            self.is_told.store(true, Ordering::SeqCst);
+            self.is_reported.store(true, Ordering::SeqCst);
         }
         self.is_raised.store(true, Ordering::SeqCst);
     }
 
     /// The place that was told to who raised it, if one was.
     pub(super) fn seen(&self) -> Option<u64> {
-        if self.is_told.load(Ordering::SeqCst) {
+        if self.is_reported.load(Ordering::SeqCst) {
             Some(self.seen.load(Ordering::SeqCst))
         } else {
             None
@@ -52,7 +52,7 @@ impl Flag {
     }
 
     /// Whether nobody went on before the flag was raised.
-    pub(super) fn is_kept(&self) -> bool {
+    pub(super) fn is_preserved(&self) -> bool {
         !self.is_given_up.load(Ordering::SeqCst)
     }
 

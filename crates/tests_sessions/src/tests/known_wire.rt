@@ -6,7 +6,7 @@ ghost use Rattle.desk_mailbox.specs.Ends.{IsSameSender};
 
 use super::talking::SessionParts;
 use crossbeam_channel::Receiver;
-use desk_published::Told;
+use desk_published::Reported;
 use desk_sessions::{KeeperWords, Line, Wire};
 use desk_threads::{BoardName, BoardReader, Item, Sender, SessionEnds};
 use desk_types::{Entry, Refusal};
@@ -23,14 +23,14 @@ pub(super) struct KnownWire<B: BoardName> {
 
 impl<B: BoardName> KnownWire<B> {
     /// The wire of a sender, with the keeper's words to its session.
-    pub(super) fn new(sender: Sender<Item>, told: Receiver<Told<B>>) -> KnownWire<B>
+    pub(super) fn new(sender: Sender<Item>, reported: Receiver<Reported<B>>) -> KnownWire<B>
         ensures { result.home.value ≡ sender }
     {
         let home = Snapshot::of(&sender);
         KnownWire {
             wire: Wire {
                 sender,
-                told: KeeperWords::new(told),
+                words: KeeperWords::new(reported),
             },
             home,
         }
@@ -41,11 +41,11 @@ impl<B: BoardName> KnownWire<B> {
         ensures { IsSameSender self.home.value result.sender }
     {
         let KnownWire { wire, home: _ } = self;
-        let Wire { sender, told } = wire;
+        let Wire { sender, words } = wire;
         SessionParts {
             sender,
             ends: SessionEnds {
-                words: told.into_channel(),
+                words: words.into_channel(),
                 reader,
             },
         }
@@ -59,13 +59,13 @@ impl<B: BoardName> Line<B> for KnownWire<B> {
 
     ghost exchanged = { λ w. None };
 
-    ghost Kept = { ASender AnItem };
+    ghost Preserved = { ASender AnItem };
 
-    ghost kept = { λ w. w.home.value };
+    ghost preserved = { λ w. w.home.value };
 
-    fn ask<R: Wait>(self, rt: &R, entry: Entry) -> (KnownWire<B>, Result<Told<B>, Refusal>) {
+    fn ask<R: Wait>(self, rt: &R, entry: Entry) -> (KnownWire<B>, Result<Reported<B>, Refusal>) {
         let KnownWire { wire, home } = self;
-        let (wire, told) = wire.ask(rt, entry);
-        (KnownWire { wire, home }, told)
+        let (wire, reported) = wire.ask(rt, entry);
+        (KnownWire { wire, home }, reported)
     }
 }

@@ -6,7 +6,7 @@ ghost use Rattle.desk_mailbox.specs.Ends.{IsSameSender};
 use super::known_wire::KnownWire;
 use super::lines::REQUESTS;
 use super::talking::{SessionParts, serve_show};
-use desk_published::{Told, ToldWord};
+use desk_published::{Reported, ReportedWord};
 use desk_sessions::{Line, NoGate};
 use desk_threads::{BoardName, SessionEnds};
 use desk_types::{ClientId, Command, Entry, KindText, RequestNumber, SiteText};
@@ -33,22 +33,22 @@ fn ask<B: BoardName, R: Wait>(
     rt: &R,
     parts: SessionParts<B>,
     entry: Entry,
-) -> (SessionParts<B>, Option<Told<B>>)
+) -> (SessionParts<B>, Option<Reported<B>>)
     ensures { IsSameSender parts.sender result.0.sender }
 {
     let SessionParts { sender, ends } = parts;
     let SessionEnds { words, reader } = ends;
-    let (wire, told) = KnownWire::new(sender, words).ask(rt, entry);
-    (wire.into_parts(reader), told.ok())
+    let (wire, reported) = KnownWire::new(sender, words).ask(rt, entry);
+    (wire.into_parts(reader), reported.ok())
 }
 
 /// Has a session learn a word.
-fn learn<B: BoardName>(parts: SessionParts<B>, told: &Told<B>) -> SessionParts<B>
+fn learn<B: BoardName>(parts: SessionParts<B>, reported: &Reported<B>) -> SessionParts<B>
     ensures { result.sender ≡ parts.sender }
 {
     let SessionParts { sender, ends } = parts;
     let SessionEnds { words, reader } = ends;
-    let reader = reader.learn(told);
+    let reader = reader.learn(reported);
     SessionParts {
         sender,
         ends: SessionEnds { words, reader },
@@ -70,14 +70,14 @@ fn show_around<B: BoardName, R: Wait>(
     alloc: Global,
     first: SessionParts<B>,
     second: SessionParts<B>,
-    told: &Told<B>,
+    reported: &Reported<B>,
 ) -> (SessionParts<B>, SessionParts<B>, bool)
     ensures first { IsSameSender first.sender result.0.sender }
     ensures second { IsSameSender second.sender result.1.sender }
 {
-    let (second, of_second) = serve_show(rt, alloc, learn(second, told), &NoGate);
+    let (second, of_second) = serve_show(rt, alloc, learn(second, reported), &NoGate);
     let (first, before) = serve_show(rt, alloc, first, &NoGate);
-    let (first, after) = serve_show(rt, alloc, learn(first, told), &NoGate);
+    let (first, after) = serve_show(rt, alloc, learn(first, reported), &NoGate);
     let is_well = reaches(of_second, REQUESTS) && reaches(before, 1) && reaches(after, REQUESTS);
     (first, second, is_well)
 }
@@ -97,10 +97,11 @@ pub(super) fn learn_a_word<B: BoardName, R: Wait>(
     let Some(entry) = second_open(alloc) else {
         return (first, second, false);
     };
-    let (second, told) = ask(rt, second, entry);
-    match told {
-        Some(told) if matches!(told.word(), ToldWord::Published(count) if *count == REQUESTS) => {
-            show_around(rt, alloc, first, second, &told)
+    let (second, reported) = ask(rt, second, entry);
+    match reported {
+        Some(reported)
+            if matches!(reported.word(), ReportedWord::Published(count) if *count == REQUESTS) => {
+            show_around(rt, alloc, first, second, &reported)
         }
         _ => (first, second, false),
     }

@@ -25,7 +25,7 @@ pub(super) const SECOND_REPLIES: &str = concat!(
 /// The place that the last reply line tells.
 pub(super) fn last_place(replies: &[u8]) -> Option<u64> {
     let text = str::from_utf8(replies).ok()?;
-    let (_, behind) = text.rsplit_once("\"place\":")?;
-    let (digits, _) = behind.split_once(',')?;
+    let (_, after) = text.rsplit_once("\"place\":")?;
+    let (digits, _) = after.split_once(',')?;
     digits.parse::<u64>().ok()
 }

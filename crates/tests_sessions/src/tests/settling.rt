@@ -6,13 +6,13 @@ ghost use Rattle.desk_mailbox.specs.Ends.{SendsTo};
 use super::ends::{NodeEnds, gather_ends};
 use super::lines::REQUESTS;
 use desk_log::StateStore;
-use desk_threads::{BoardName, KeeperGuard, KeptNode, gather};
+use desk_threads::{BoardName, KeeperGuard, OwnedNode, gather};
 use std::sync::Wait;
 
 /// A node that has ended.
 #[derive(Drop)]
 pub(super) struct EndedNode {
-    kept: KeptNode,
+    preserved: OwnedNode,
     /// All that was put was done or is left, and all that readers saw is published.
     is_whole: bool,
 }
@@ -20,13 +20,13 @@ pub(super) struct EndedNode {
 impl EndedNode {
     /// No item was refused, and each request is committed, the same in the log of the other.
     pub(super) fn agrees(&self, other: &EndedNode) -> bool {
-        let saved = self.kept.node().saved();
+        let saved = self.preserved.node().saved();
         self.is_whole
-            && self.kept.refused() == 0
+            && self.preserved.refused() == 0
             && saved.commit() == REQUESTS
             && saved
                 .log()
-                .front_of(other.kept.node().saved().log(), REQUESTS)
+                .front_of(other.preserved.node().saved().log(), REQUESTS)
     }
 }
 
@@ -39,7 +39,10 @@ pub(super) fn settle<B: BoardName, S: StateStore + Drop, R: Wait + Drop>(
     requires { All (SendsTo guard.keeper.value.taker) ends.senders.items }
 {
     let (gathered, is_whole) = gather_ends(rt, gather(guard.into_keeper()), ends);
-    let (kept, store) = gathered.end(rt);
+    let (preserved, store) = gathered.end(rt);
     drop(store);
-    EndedNode { kept, is_whole }
+    EndedNode {
+        preserved,
+        is_whole,
+    }
 }

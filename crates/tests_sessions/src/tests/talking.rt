@@ -145,7 +145,7 @@ pub(super) fn talk<B: BoardName + Send + Sync, R: Threads + Wait + Clock + Sync>
         first,
         second,
         is_well: is_served
-            && flag.is_kept()
+            && flag.is_preserved()
             && flag.answers() == 1
             && is_in_order(shown, flag.seen())
             && is_learnt,

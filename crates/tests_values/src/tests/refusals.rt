@@ -39,8 +39,8 @@ const ROWS: &[Row] = &[
 ];
 
 fn has_row(refusal: &Refusal, row: &Row) -> bool {
-    let (member, told) = told_beside(refusal);
-    refusal.number() == row.1 && refusal.name() == row.2 && member == row.3 && told == row.4
+    let (member, reported) = told_beside(refusal);
+    refusal.number() == row.1 && refusal.name() == row.2 && member == row.3 && reported == row.4
 }
 
 fn is_copied(refusal: &Refusal, row: &Row) -> bool {

@@ -4,7 +4,7 @@ use Rattle.std.proofs.KnownBytes.{Appends-trans}
 use Rattle.desk_output.specs.Prefixes.{AppendsPrefix}
 use Rattle.desk_output.proofs.Prefixes.{whole_prefix}
 use Rattle.desk_admission.specs.Handshake.{HasAnswered, HasProved}
-use Rattle.desk_admission.proofs.Prefixed.{prefix_behind}
+use Rattle.desk_admission.proofs.Prefixed.{prefix_after}
 use Rattle.desk_admission.proofs.initiator.initiate.Goals as goal
 
 pub returns-in-Err-read_challenge-clause-err : goal.returns-in-Err-read_challenge-clause-err
@@ -23,7 +23,7 @@ returns-in-Err-send-clause-err g c =
     let answered : HasAnswered block c.hello-hello.result input left first last = record {
       nonce = c.in-Ok.nonce;
       heard = c.in-Ok.ensures;
-      sent = prefix_behind first second last _ _ c.in_default.ensures.ok
+      sent = prefix_after first second last _ _ c.in_default.ensures.ok
           (subst (AppendsPrefix second last) c.initiator_proof.ensures c.in-Err-send.ensures.err);
     } in
     inr (subst (λ h. HasAnswered block h input left first last) c.hello-hello.ensures answered)

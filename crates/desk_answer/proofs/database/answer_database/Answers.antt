@@ -13,7 +13,7 @@ use Rattle.desk_saved.specs.OldFile.{IsOldFileOf}
 use Rattle.desk_types.specs.Refusal.{HasStored}
 use Rattle.desk_answer.specs.AnswerRun.{KeepsState, IsUntouched}
 use Rattle.desk_output.specs.Prefixes.{AppendsPrefix}
-use Rattle.desk_answer.proofs.DatabaseRuns.{state_kept, state_left, served_whole, served_before, served_part}
+use Rattle.desk_answer.proofs.DatabaseRuns.{state_preserved, state_left, served_whole, served_before, served_part}
 use Rattle.desk_answer.proofs.DatabaseRuns.{no_frame_in_store, no_read_in_store, no_frame_at_open, no_read_at_open}
 use Rattle.desk_answer.proofs.DatabaseRuns.{memory_at_open, fault_at_open, no_stop_at_open, run_ended, run_unbegun}
 use Rattle.desk_answer.proofs.database.answer_database.Goals as goal
@@ -22,12 +22,12 @@ pub returns-in-Ok-open-clause-ok : goal.returns-in-Ok-open-clause-ok
 returns-in-Ok-open-clause-ok g c =
     let said = c.in-Ok-open.ensures in
     let run = c.answer_from_last-result in
-    let opened : Owner = c.in-Ok.kept in
+    let opened : Owner = c.in-Ok.preserved in
     let owner_is : opened ≡ c.args.owner = c.in-Ok.ensures in
     served_whole g.S.Store c.args.owner c.args.connection c.into_connection.result c.in-Ok-open.file.last
     run.new.file.last (g.R.Read.remaining c.args.reader.now) (g.R.Read.remaining run.new.reader)
     (Appends (g.W.Write.contents c.args.writer.now) (g.W.Write.contents run.new.writer)) run.result
-    (λ stored. state_kept g.S.Store c.args.owner opened c.args.connection c.into_connection.result
+    (λ stored. state_preserved g.S.Store c.args.owner opened c.args.connection c.into_connection.result
     c.in-Ok-open.file run.new.file owner_is c.into_connection.ensures said.opened run.ensures.same_owner
     run.ensures.clean
     (run.ensures.rows stored)) run.ensures.ok
@@ -36,11 +36,11 @@ pub returns-in-Ok-open-clause-err : goal.returns-in-Ok-open-clause-err
 returns-in-Ok-open-clause-err g c =
     let said = c.in-Ok-open.ensures in
     let run = c.answer_from_last-result in
-    let opened : Owner = c.in-Ok.kept in
+    let opened : Owner = c.in-Ok.preserved in
     let owner_is : opened ≡ c.args.owner = c.in-Ok.ensures in
     let keeps : HasStored run.result → KeepsState g.S.Store c.args.owner c.args.connection c.into_connection.result
     c.in-Ok-open.file.last run.new.file.last =
-    λ stored. state_kept g.S.Store c.args.owner opened c.args.connection c.into_connection.result
+    λ stored. state_preserved g.S.Store c.args.owner opened c.args.connection c.into_connection.result
     c.in-Ok-open.file run.new.file owner_is c.into_connection.ensures said.opened run.ensures.same_owner
     run.ensures.clean (run.ensures.rows stored) in
     run_ended g.S.Store c.args.owner c.args.connection c.into_connection.result
@@ -109,7 +109,7 @@ pub returns-in-Ok-open-clause-refused : goal.returns-in-Ok-open-clause-refused
 returns-in-Ok-open-clause-refused g c some none no_old clean =
     let said = c.in-Ok-open.ensures in
     let run = c.answer_from_last-result in
-    let opened : Owner = c.in-Ok.kept in
+    let opened : Owner = c.in-Ok.preserved in
     let owner_is : opened ≡ c.args.owner = c.in-Ok.ensures in
     let last = c.in-Ok-open.file.last in
     let now = (state g.S.Store c.args.connection).now in

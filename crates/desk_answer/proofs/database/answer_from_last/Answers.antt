@@ -4,7 +4,7 @@ use Rattle.desk_types.specs.declared.refusal.Refusal.TheVariants as refusals
 use Rattle.desk_types.specs.Refusal.{IsWritingFault}
 use Rattle.desk_frames.proofs.Receiving.{received_as}
 use Rattle.desk_node.specs.NodeValue.{node_from}
-use Rattle.desk_saved.proofs.KeptFile.{kept_still}
+use Rattle.desk_saved.proofs.SameFile.{preserved_still}
 use Rattle.desk_answer.proofs.UnansweredPackets.{send_no_store}
 use Rattle.desk_answer.proofs.DatabaseRuns.{answers_of_sent, answers_but_last, nothing_part}
 use Rattle.desk_answer.proofs.DatabaseRuns.{on_ok_stored, on_fault_stored, always_if_err, no_frame_in_store}
@@ -75,7 +75,7 @@ returns-clause-cut_short g c =
     (IfErr-weaker c.answer_stream-answered.result _ _ (λ r h. h.cut_short) c.answer_stream-answered.ensures.err)
 
 pub returns-in_err-last-clause-rows : goal.returns-in_err-last-clause-rows
-returns-in_err-last-clause-rows g c stored = kept_still g.S.Store c.args.file.now
+returns-in_err-last-clause-rows g c stored = preserved_still g.S.Store c.args.file.now
 
 pub returns-clause-fault : goal.returns-clause-fault
 returns-clause-fault g c =

@@ -1,8 +1,8 @@
 use Rattle.std.proofs.Common.{refl}
 use Rattle.std.proofs.lemmas.Result.{err_from_is_err_and}
-use Rattle.desk_saved.proofs.KeptFile.{kept_still}
+use Rattle.desk_saved.proofs.SameFile.{preserved_still}
 use Rattle.desk_answer.proofs.UnansweredPackets.{ended_before}
-use Rattle.desk_answer.proofs.FileAfterAnswers.{kept_alone, closed_never, stopped_never}
+use Rattle.desk_answer.proofs.FileAfterAnswers.{preserved_alone, closed_never, stopped_never}
 use Rattle.desk_answer.proofs.StepsInOrder.{same_refl}
 use Rattle.desk_answer.proofs.stream.answer_stream.Goals as goal
 
@@ -11,16 +11,17 @@ returns-in_err-frames-clause-err g c =
     let p = err_from_is_err_and c.from_residual.result c.from_residual.ensures.1 in
     rw (p.1, p.2) (ended_before g.S.Store _ _ c.args.node.now c.args.file.now)
 
-pub returns-in_err-frames-clause-kept : goal.returns-in_err-frames-clause-kept
-returns-in_err-frames-clause-kept g c = λ stored.
+pub returns-in_err-frames-clause-preserved : goal.returns-in_err-frames-clause-preserved
+returns-in_err-frames-clause-preserved g c = λ stored.
     let file = c.args.file.now in
-    kept_alone g.S.Store file file c.args.node.now.saved
-    (λ open_ trees leaves. g.met.S.Store.settled _ trees open_ leaves) (kept_still g.S.Store file) refl c.requires.last
+    preserved_alone g.S.Store file file c.args.node.now.saved
+    (λ open_ trees leaves. g.met.S.Store.settled _ trees open_ leaves) (preserved_still g.S.Store file) refl
+    c.requires.last
 
-pub returns-clause-kept : goal.returns-clause-kept
-returns-clause-kept g c = λ stored.
+pub returns-clause-preserved : goal.returns-clause-preserved
+returns-clause-preserved g c = λ stored.
     let f = c.answer_frames.ensures.file in
-    kept_alone g.S.Store c.args.file.now c.answer_frames.new.file c.answer_frames.new.node.saved
+    preserved_alone g.S.Store c.args.file.now c.answer_frames.new.file c.answer_frames.new.node.saved
     (λ open_ trees leaves. g.met.S.Store.settled _ trees open_ leaves) (f.rows stored) f.owner_is (f.last stored)
 
 pub returns-in_err-frames-clause-end : goal.returns-in_err-frames-clause-end
@@ -59,7 +60,7 @@ pub returns-in_err-frames-clause-last : goal.returns-in_err-frames-clause-last
 returns-in_err-frames-clause-last g c = λ stored. c.requires.last
 
 pub returns-in_err-frames-clause-rows : goal.returns-in_err-frames-clause-rows
-returns-in_err-frames-clause-rows g c = λ stored. kept_still g.S.Store c.args.file.now
+returns-in_err-frames-clause-rows g c = λ stored. preserved_still g.S.Store c.args.file.now
 
 pub returns-clause-end : goal.returns-clause-end
 returns-clause-end g c = c.answer_frames.ensures.end

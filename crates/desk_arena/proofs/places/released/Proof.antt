@@ -41,7 +41,7 @@ use Rattle.core.proofs.slots.Leases.{uncapped, block_ty, block_size, block_align
 use Rattle.core.proofs.slots.Opens.{Sr, row_val}
 use Rattle.core.proofs.slots.Places.{sz, to_room}
 use Rattle.core.proofs.slots.Slots.into_raw_parts.Met as into
-use Rattle.desk_arena.proofs.Leases.{Lr, lease_val, lease_told}
+use Rattle.desk_arena.proofs.Leases.{Lr, lease_val, lease_reported}
 use Rattle.desk_arena.proofs.RawParts.{Into, at_into, into_asks, into_gives, row_seen, parts_typed, words_good}
 use Rattle.desk_arena.specs.contracts.places.released.{ended, clauses}
 use Rattle.desk_arena.specs.contracts.places.released.Key.{name as #self}
@@ -86,7 +86,7 @@ released_spec 𝓤 𝓛 𝓜 𝓡 wired T' A L LA g d dd met md =
     (λ in_T. split ! $ heard ! (κ₂ ⊑ A.lives) (λ in_A. heard ! Ok (λ ok.
     split ! $ split ! $ move ! (2 ∷ []) $ fsplit3 ! $ fsplit ! $ feq_l !
     (λ e₀. move ! (1 ∷ []) $ row_seen E ! h vss.1.0 (λ b o at e₁ fits fit.
-    let bytes : n * s < 2 ^ 64 = omega arith in let e₂ = lease_told E Z vss.1.1.0 are.1.1.0.0 in
+    let bytes : n * s < 2 ^ 64 = omega arith in let e₂ = lease_reported E Z vss.1.1.0 are.1.1.0.0 in
     move ! (2 ∷ []) $ fsplit ! $ fsplit ! $ keep ! (1 ∷ 3 ∷ 4 ∷ 5 ∷ 6 ∷ []) $
     rewrite ! 0 (λ (u : A.Denot × ℕ × Ptr). ‵ (token Z u.0 (block_ty E u.1) u.2))
     (λ i. (ok.2 i, ok.1 i, (ok.0 ∙ at) i)) refl $

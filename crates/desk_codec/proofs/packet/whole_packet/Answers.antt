@@ -17,15 +17,15 @@ loop-more-preserved c = rw c.in_ok-push-in-Ok-2.ensures.items
     (goes c.args.bytes.now c.in-Ok.found.0 c.loop-more.entries.items c.loop-more.at c.loop-more.more
     c.in-Ok-2.size c.in-Ok-2.entry c.loop-more.invariant (omega arith)
     (subst (λ (x : List ℕ). FrontEntry c.in-Ok.found.0.head.version x (Ok (c.in-Ok-2.entry, c.in-Ok-2.size)))
-    c.behind.ensures
-    (subst (λ (r : Result (Entry × ℕ) Lack). FrontEntry c.in-Ok.found.0.head.version c.behind.result.now r)
+    c.after.ensures
+    (subst (λ (r : Result (Entry × ℕ) Lack). FrontEntry c.in-Ok.found.0.head.version c.after.result.now r)
     c.in-Ok-2.is c.in_ok-entry.ensures)))
 
 pub returns-in-Err-2 : goal.returns-in-Err-2
 returns-in-Err-2 c = no_entry_left c.args.bytes.now c.in-Ok.found.0 c.loop-more.entries.items c.loop-more.at
     c.loop-more.more c.loop-more.invariant c.in-Err-2.field-0 (omega arith)
-    (subst (λ (x : List ℕ). FrontEntry c.in-Ok.found.0.head.version x (Err c.in-Err-2.field-0)) c.behind.ensures
-    (subst (λ (r : Result (Entry × ℕ) Lack). FrontEntry c.in-Ok.found.0.head.version c.behind.result.now r)
+    (subst (λ (x : List ℕ). FrontEntry c.in-Ok.found.0.head.version x (Err c.in-Err-2.field-0)) c.after.ensures
+    (subst (λ (r : Result (Entry × ℕ) Lack). FrontEntry c.in-Ok.found.0.head.version c.after.result.now r)
     c.in-Err-2.is
     c.in_ok-entry.ensures))
 

@@ -1,7 +1,7 @@
 use Rattle.desk_types.specs.declared.limits.TheConstants.{KIND_BYTES, SITE_BYTES}
 use Rattle.desk_codec.specs.Ranges.{FitsText}
 use Rattle.desk_codec.specs.Spelling.{short_text}
-use Rattle.desk_codec.proofs.Growing.{put_behind}
+use Rattle.desk_codec.proofs.Growing.{put_after}
 use Rattle.desk_codec.proofs.Putting.{fits_too, grows_later}
 use Rattle.desk_codec.proofs.push_body.push_kind_and_site.Goals as goal
 
@@ -14,7 +14,7 @@ returns c =
     let first = c.in_ok-push_text.ensures in
     let last = c.push_text-2.ensures in
     record {
-      spelling = put_behind result before between out (short_text c.args.kind.now) (short_text c.args.site.now)
+      spelling = put_after result before between out (short_text c.args.kind.now) (short_text c.args.site.now)
           first.spelling last.spelling;
       fits = fits_too result (FitsText KIND_BYTES c.args.kind.now) (FitsText SITE_BYTES c.args.site.now) first.fits
           last.fits;

@@ -1,6 +1,6 @@
 use Rattle.desk_codec.specs.Ranges.{FitsSeconds, FitsIncident}
 use Rattle.desk_codec.specs.Spelling.{made_at, short_text}
-use Rattle.desk_codec.proofs.Growing.{put_behind}
+use Rattle.desk_codec.proofs.Growing.{put_after}
 use Rattle.desk_codec.proofs.Putting.{put_verb, fits_seconds, fits_too, grows_later}
 use Rattle.desk_codec.proofs.push_body.push_of_incident.Goals as goal
 
@@ -14,7 +14,7 @@ returns c =
     let first = c.in_ok-push_verb.ensures.spelling in
     let put = c.push_incident.ensures in
     record {
-      spelling = put_behind result before one out (made_at c.args.verb at) (short_text c.args.incident.now)
+      spelling = put_after result before one out (made_at c.args.verb at) (short_text c.args.incident.now)
           (put_verb c.args.verb at before one c.ranges.at first) put.spelling;
       fits = fits_too result (FitsSeconds at) (FitsIncident c.args.incident.now) (fits_seconds at c.ranges.at)
           put.fits;

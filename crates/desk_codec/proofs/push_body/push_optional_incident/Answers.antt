@@ -1,6 +1,6 @@
 use Rattle.std.proofs.Common.{[], ◌∷◌}
 use Rattle.desk_codec.specs.Spelling.{short_text}
-use Rattle.desk_codec.proofs.Growing.{put_behind}
+use Rattle.desk_codec.proofs.Growing.{put_after}
 use Rattle.desk_codec.proofs.Putting.{fits_yet, grows_later}
 use Rattle.desk_codec.proofs.push_body.push_optional_incident.Goals as goal
 
@@ -18,7 +18,7 @@ returns-in_ok-push_byte-in-Some c =
     let first = c.in_ok-push_byte-in-Some.ensures.spelling in
     let put = c.push_incident.ensures in
     rw c.in-Some.is (record {
-      spelling = put_behind result before between out (1 ∷ []) (short_text c.in-Some.incident) first put.spelling;
+      spelling = put_after result before between out (1 ∷ []) (short_text c.in-Some.incident) first put.spelling;
       fits = put.fits;
       err = grows_later result before between out _ first put.err;
     })

@@ -1,5 +1,5 @@
 use Rattle.std.proofs.Common.{[], ◌∷◌, length}
-use Rattle.desk_codec.proofs.Growing.{put_behind}
+use Rattle.desk_codec.proofs.Growing.{put_after}
 use Rattle.desk_codec.proofs.Putting.{put_same, grows_later}
 use Rattle.desk_codec.proofs.push_body.push_short_text.Goals as goal
 
@@ -13,7 +13,7 @@ returns c =
     let first = c.in_ok-push_byte.ensures.spelling in
     let put = c.push_bytes.ensures in
     record {
-      spelling = put_behind result before between out (length text ∷ []) text first
+      spelling = put_after result before between out (length text ∷ []) text first
           (put_same result between out _ text c.as_bytes.ensures.value put.spelling);
       utf8 = c.utf8.text;
       err = grows_later result before between out _ first put.err;

@@ -4,7 +4,7 @@ use Rattle.std.proofs.lemmas.Int.{to_z-of_z}
 use Rattle.desk_types.specs.Numbers.{verb_number}
 use Rattle.desk_codec.specs.Ranges.{FitsSeconds}
 use Rattle.desk_codec.specs.Spelling.{seconds}
-use Rattle.desk_codec.proofs.Growing.{put_behind}
+use Rattle.desk_codec.proofs.Growing.{put_after}
 use Rattle.desk_codec.proofs.Putting.{put_same, fits_seconds, fits_yet, grows_later}
 use Rattle.desk_codec.proofs.Putting.{was_refused, holds_refused}
 use Rattle.desk_codec.proofs.push_body.push_verb.Goals as goal
@@ -15,7 +15,7 @@ returns-clause-spelling c =
     let between = c.push_byte.new.out.items in
     let out = c.push_bytes.new.out.items in
     let result = c.push_bytes.result in
-    put_behind result before between out (verb_number c.args.verb ∷ []) (seconds c.args.at)
+    put_after result before between out (verb_number c.args.verb ∷ []) (seconds c.args.at)
     (c.in_ok-push_byte.ensures.spelling ∙ ap (λ n. before ++ n ∷ []) c.number.ensures)
     (put_same result between out _ (seconds c.args.at)
     (c.to_be_bytes.ensures ∙ ap seconds (to_z-of_z w64 c.args.at c.ranges.at)) c.push_bytes.ensures.spelling)

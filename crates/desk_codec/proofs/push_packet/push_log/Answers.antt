@@ -4,7 +4,7 @@ use Rattle.std.specs.List.{flat_map}
 use Rattle.std.specs.Int.{w32, to_be_bytes}
 use Rattle.desk_codec.specs.Ranges.{FitsEntries}
 use Rattle.desk_codec.specs.Spelling.{entry_spelling, log_spelling}
-use Rattle.desk_codec.proofs.Growing.{put_behind}
+use Rattle.desk_codec.proofs.Growing.{put_after}
 use Rattle.desk_codec.proofs.Putting.{put_same, grows_later}
 use Rattle.desk_codec.proofs.push_packet.push_log.Goals as goal
 
@@ -22,7 +22,7 @@ returns c =
     let put = c.push_entries.ensures in
     let last = flat_map entry_spelling log in
     record {
-      spelling = put_behind result before between out (to_be_bytes w32 (length log)) last
+      spelling = put_after result before between out (to_be_bytes w32 (length log)) last
           (first ∙ ap (λ r. before ++ r) count)
           (put_same result between out _ last (ap (flat_map entry_spelling) same) put.spelling);
       fits = subst (λ es. OnOk result (FitsEntries es)) same put.fits;

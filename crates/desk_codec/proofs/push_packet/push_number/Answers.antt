@@ -1,6 +1,6 @@
 use Rattle.desk_codec.specs.Ranges.{FitsNode}
 use Rattle.desk_codec.specs.Spelling.{head, long}
-use Rattle.desk_codec.proofs.Growing.{put_behind}
+use Rattle.desk_codec.proofs.Growing.{put_after}
 use Rattle.desk_codec.proofs.Putting.{fits_yet, grows_later}
 use Rattle.desk_codec.proofs.push_packet.push_number.Goals as goal
 
@@ -12,7 +12,7 @@ returns c =
     let result = c.push_u64.result in
     let first = c.in_ok-push_head.ensures in
     record {
-      spelling = put_behind result before one out (head c.args.version c.args.kind c.args.from c.args.view)
+      spelling = put_after result before one out (head c.args.version c.args.kind c.args.from c.args.view)
           (long c.args.number) first.spelling c.push_u64.ensures.spelling;
       fits = fits_yet result (FitsNode c.args.from) first.fits;
       err = grows_later result before one out _ first.spelling c.push_u64.ensures.err;

@@ -22,7 +22,7 @@ returns-in-Ok-create-clause-ok g c clean =
     let fresh = c.in-Ok.fresh in
     let made = c.in-Ok.ensures in
     let e = c.in-Ok-create.ensures in
-    let kept = e.kept clean in
+    let preserved = e.kept clean in
     let cleanness = (pool_files fresh.pool).1 ∙ ap (λ f. are_clean g.D.Disk f.0 f.1) made.files in
     let faults = ap (λ f. g.D.Disk.faults f.0 + g.D.Disk.faults f.1) made.files in
     record {
@@ -34,12 +34,12 @@ returns-in-Ok-create-clause-ok g c clean =
         unmarked = e.ready.unmarked;
       };
       is_open = e.ready.is_open (no_doubt _ clean);
-      counts = omega (arith, (pool_files fresh.pool).0, faults, kept.counts, e.counted);
+      counts = omega (arith, (pool_files fresh.pool).0, faults, preserved.counts, e.counted);
       empty = (
         λ tree low. ap (λ d. d tree) e.ready.clean ∙ e.empty clean tree low,
         rw clean (catalog_rows _ _ _ ∙ ap (listed_from 0) (e.schema ∙ made.none)),
       );
-      pages = kept.size ∙ made.pages;
+      pages = preserved.size ∙ made.pages;
     }
 
 pub returns-in-Ok-create-clause-plain : goal.returns-in-Ok-create-clause-plain

@@ -152,7 +152,8 @@ copy_items-loop-item-preserved t c =
       copied = ap (with_items rest) done.copied ∙ (ap (λ ds. with_items ds c.loop-item.arena) (sym left) ∙ inv.copied);
       room = omega (arith, inv.room, done.taken, ap items_room left);
       utf8 = λ h. inv.utf8 (subst ItemsHaveUtf8Texts (sym left) (done.utf8, h));
-      kept = part-copy (view x) no_name c.args.arena.now c.loop-item.arena c.copy.new.arena inv.kept done.copied;
+      preserved = part-copy (view x) no_name c.args.arena.now c.loop-item.arena c.copy.new.arena inv.preserved
+          done.copied;
       capacity = c.copy.ensures.capacity ∙ inv.capacity;
     }
 
@@ -169,7 +170,7 @@ copy_members-loop-name-preserved t c =
       copied = ap (with_members rest) there ∙ (ap (λ ms. with_members ms l) (sym left) ∙ inv.copied);
       room = omega (arith, inv.room, done.taken, named.taken, ap members_room left);
       utf8 = λ h. inv.utf8 (subst MembersHaveUtf8Texts (sym left) (done.utf8, h));
-      kept = part-member key d c.args.arena.now l c.copy.new.arena inv.kept there;
+      preserved = part-member key d c.args.arena.now l c.copy.new.arena inv.preserved there;
       capacity = c.copy.ensures.capacity ∙ (c.push_text.ensures.capacity ∙ inv.capacity);
     }
 
@@ -178,7 +179,7 @@ copy_items-loop-item-init t c = record {
   copied = refl;
   room = refl;
   utf8 = λ h. h;
-  kept = IsPartOf-refl c.args.arena.now;
+  preserved = IsPartOf-refl c.args.arena.now;
   capacity = refl;
 }
 
@@ -195,7 +196,7 @@ copy_items-returns-in_err-copy t c =
     (items_room rest) (inv.room ∙ ap (λ xs. room l + items_room (items_view xs)) same) (ap items_room left)
     (done.full.0 refl)) (done.capacity ∙ inv.capacity) done.within c.from_residual.result c.from_residual.ensures.0
     (begun-items _ (view x) (items_view (drop i items)) rest all a l c.copy.new.arena left
-    (inv.copied ∙ ap (λ xs. with_items (items_view xs) a) same) inv.kept done.begun)
+    (inv.copied ∙ ap (λ xs. with_items (items_view xs) a) same) inv.preserved done.begun)
 
 pub copy_items-returns : goal.copy_items-returns
 copy_items-returns t c =
@@ -228,7 +229,7 @@ copy_members-loop-name-init t c =
       copied = ap (λ xs. with_members (members_view xs) a) same;
       room = ap (λ xs. room a + members_room (members_view xs)) same;
       utf8 = subst (λ xs. MembersHaveUtf8Texts (members_view xs)) same;
-      kept = IsPartOf-refl a;
+      preserved = IsPartOf-refl a;
       capacity = refl;
     }
 
@@ -243,7 +244,8 @@ copy_members-returns-in_err-name t c =
     (length c.as_bytes.result.now) (room_of (view c.in-Some.member.now)) (members_room (members_view c.next.new.self))
     inv.room (ap members_room left) (done.full.0 refl)) (done.capacity ∙ inv.capacity) done.within _
     c.from_residual.result c.from_residual.ensures.0
-    (begun-name _ (members_view c.loop-name.name-iterator) all a l c.push_text.new.arena inv.copied inv.kept done.err)
+    (begun-name _ (members_view c.loop-name.name-iterator) all a l c.push_text.new.arena inv.copied inv.preserved
+    done.err)
 
 pub copy_members-returns-in_err-copy : goal.copy_members-returns-in_err-copy
 copy_members-returns-in_err-copy t c =
@@ -259,7 +261,7 @@ copy_members-returns-in_err-copy t c =
     c.from_residual-in_err-copy.ensures.0
     (begun-members _ c.as_bytes.result.now c.in_ok-name.name (view c.in-Some.member.now)
     (members_view c.loop-name.name-iterator) (members_view c.next.new.self) all
-    a l c.push_text.new.arena c.copy.new.arena left named.text named.pushed inv.copied inv.kept done.begun)
+    a l c.push_text.new.arena c.copy.new.arena left named.text named.pushed inv.copied inv.preserved done.begun)
 
 pub copy_members-returns : goal.copy_members-returns
 copy_members-returns t c =

@@ -16,7 +16,7 @@ invariant-copy_items-loop-item l = record {
       (items_view l.item-items);
   utf8 : ItemsHaveUtf8Texts (items_view (drop l.item-index l.item-items)) →
       ItemsHaveUtf8Texts (items_view l.item-items);
-  kept : IsPartOf l.fn.arena l.arena;
+  preserved : IsPartOf l.fn.arena l.arena;
   capacity : l.arena.capacity ≡ l.fn.arena.capacity;
 }
 
@@ -27,6 +27,6 @@ invariant-copy_members-loop-name l = record {
   room : room l.fn.arena + members_room (members_view l.name-iterator) ≡ room l.arena + members_room
       (members_view l.members.entries);
   utf8 : MembersHaveUtf8Texts (members_view l.name-iterator) → MembersHaveUtf8Texts (members_view l.members.entries);
-  kept : IsPartOf l.fn.arena l.arena;
+  preserved : IsPartOf l.fn.arena l.arena;
   capacity : l.arena.capacity ≡ l.fn.arena.capacity;
 }

@@ -7,8 +7,8 @@ use Rattle.desk_eido.proofs.line.copy_document.Goals as goal
 pub returns-in_err-document-clause-begun : goal.returns-in_err-document-clause-begun
 returns-in_err-document-clause-begun c = λ d h. IsPartOf-with_copy d no_name c.args.arena.now
 
-pub returns-in-Ok-clause-kept : goal.returns-in-Ok-clause-kept
-returns-in-Ok-clause-kept c =
+pub returns-in-Ok-clause-preserved : goal.returns-in-Ok-clause-preserved
+returns-in-Ok-clause-preserved c =
     part-copy (view c.in_ok-document.document) no_name c.args.arena.now c.args.arena.now c.copy.new.arena
     (IsPartOf-refl c.args.arena.now) c.in-Ok.ensures.copied
 

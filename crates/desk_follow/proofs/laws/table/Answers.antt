@@ -1,4 +1,4 @@
-use Rattle.desk_follow.proofs.Told.{course_is}
+use Rattle.desk_follow.proofs.Reported.{course_is}
 use Rattle.desk_follow.proofs.laws.table.Goals as goal
 
 pub returns : goal.returns

@@ -1,6 +1,6 @@
 use Rattle.std.proofs.Common.{ℕ, List, [], Option, take, sym, subst}
 use Rattle.desk_types.specs.declared.packet.Message.{Message}
-use Rattle.desk_frames.specs.Frame.{GoesOn, KeptWith, Moved, Stepped, Taken, position}
+use Rattle.desk_frames.specs.Frame.{GoesOn, PreservedWith, Moved, Stepped, Taken, position}
 use Rattle.desk_frames.proofs.Feeds.{goes_none, goes_some}
 use Rattle.desk_frames.proofs.cutter.step.Goals as goal
 
@@ -20,7 +20,7 @@ returns-in_default-push-clause-ok c =
       subst (λ (ns : List Message). GoesOn f ms x g ns) (sym c.in_default-push.ensures.items)
           (goes_some f g ms m x
           (subst (λ (p : Option Message). Moved (position f []) x p (position g [])) c.in-Some-packet.is t.moved)
-          (λ ds k. subst (λ (p : Option Message). KeptWith ds p g) c.in-Some-packet.is (t.keeps ds k))),
+          (λ ds k. subst (λ (p : Option Message). PreservedWith ds p g) c.in-Some-packet.is (t.keeps ds k))),
       t.covers,
     )
 
@@ -37,6 +37,6 @@ returns-in_default-packet-clause-ok c =
       t.some,
       goes_none f g c.args.packets.now.items x
           (subst (λ (p : Option Message). Moved (position f []) x p (position g [])) c.in_default-packet.is t.moved)
-          (λ ds k. subst (λ (p : Option Message). KeptWith ds p g) c.in_default-packet.is (t.keeps ds k)),
+          (λ ds k. subst (λ (p : Option Message). PreservedWith ds p g) c.in_default-packet.is (t.keeps ds k)),
       t.covers,
     )

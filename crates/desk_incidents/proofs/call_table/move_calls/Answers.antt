@@ -22,7 +22,7 @@ loop-done-preserved c = record {
     c.move_first.ensures.room,
     c.loop-done.invariant.room,
   );
-  kept = λ n. c.move_first.ensures.kept n ∙ c.loop-done.invariant.kept n;
+  preserved = λ n. c.move_first.ensures.preserved n ∙ c.loop-done.invariant.preserved n;
 }
 
 pub returns-clause-calls : goal.returns-clause-calls

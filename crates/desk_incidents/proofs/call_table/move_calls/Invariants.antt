@@ -13,5 +13,5 @@ invariant-loop-done l = record {
   left : length (at_in l.from l.index.lists.entries) + l._done ≡ length (at_in l.from l.fn.index.lists.entries);
   room : length (at_in l.to l.index.lists.entries) + length (at_in l.from l.index.lists.entries) ≤ room_in l.to
       l.index.lists.entries;
-  kept : (n : ℕ) → has_list n l.index.lists.entries ≡ has_list n l.fn.index.lists.entries;
+  preserved : (n : ℕ) → has_list n l.index.lists.entries ≡ has_list n l.fn.index.lists.entries;
 }

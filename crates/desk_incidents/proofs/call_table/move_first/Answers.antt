@@ -43,7 +43,7 @@ returns-in-Some c =
             (c.give_at.ensures.lists c.args.to),
       );
       room = c.give_at.ensures.room c.args.to;
-      kept = c.give_at.ensures.listed;
+      preserved = c.give_at.ensures.listed;
     }
 
 pub returns-in_default : goal.returns-in_default

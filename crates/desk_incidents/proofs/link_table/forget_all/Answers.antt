@@ -10,7 +10,7 @@ use Rattle.desk_incidents.proofs.EndChanges.{taken_more, taken_none}
 use Rattle.desk_incidents.proofs.link_table.forget_all.Goals as goal
 
 pub loop-place-init : goal.loop-place-init
-loop-place-init c = record { ends = λ n m. refl; kept = λ n. refl }
+loop-place-init c = record { ends = λ n m. refl; preserved = λ n. refl }
 
 pub loop-place-preserved : goal.loop-place-preserved
 loop-place-preserved c =
@@ -32,7 +32,7 @@ loop-place-preserved c =
           && list_any (λ k. passes (touches n) (standing c.args.slots.now k)) ks) false
           (has_end n m c.loop-place.sets.sets.entries)) first)
           ∙ c.loop-place.invariant.ends n m;
-      kept = λ n. c.forget_at.ensures.kept n ∙ c.loop-place.invariant.kept n;
+      preserved = λ n. c.forget_at.ensures.preserved n ∙ c.loop-place.invariant.preserved n;
     }
 
 pub returns-clause-ends : goal.returns-clause-ends
@@ -44,5 +44,5 @@ returns-clause-ends c n m =
     (drop_all c.loop-place.place-index c.args.among.now (omega (arith, c.loop-place-test.false))))
     ∙ c.loop-place.invariant.ends n m
 
-pub returns-clause-kept : goal.returns-clause-kept
-returns-clause-kept c n = c.loop-place.invariant.kept n
+pub returns-clause-preserved : goal.returns-clause-preserved
+returns-clause-preserved c n = c.loop-place.invariant.preserved n

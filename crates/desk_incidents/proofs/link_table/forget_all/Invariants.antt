@@ -15,5 +15,5 @@ invariant-loop-place l = record {
       (has_end n m l.sets.sets.entries)
       ≡ cond ((l.fn.number == m) && list_any (λ k. passes (touches n) (standing l.fn.slots k)) l.fn.among) false
       (has_end n m l.fn.sets.sets.entries);
-  kept : (n : ℕ) → has_list n l.sets.sets.entries ≡ has_list n l.fn.sets.sets.entries;
+  preserved : (n : ℕ) → has_list n l.sets.sets.entries ≡ has_list n l.fn.sets.sets.entries;
 }

@@ -4,7 +4,7 @@ use Rattle.desk_incidents.specs.declared.incident.Linked.{Linked}
 use Rattle.desk_incidents.specs.Links.{same_link, has_link, new_link, without_link, links_after_merge}
 use Rattle.desk_incidents.specs.LinkTable.{touches}
 use Rattle.desk_index.specs.Slots.{live}
-use Rattle.desk_incidents.proofs.FirstLinks.{count_kept, links-closed, without-gone}
+use Rattle.desk_incidents.proofs.FirstLinks.{count_preserved, links-closed, without-gone}
 use Rattle.desk_incidents.proofs.link_table.merge_links.Goals as goal
 
 pub merge_lists-requires-clause-unlinked : goal.merge_lists-requires-clause-unlinked
@@ -15,7 +15,7 @@ merge_lists-requires-clause-unlinked c =
     ∙ without-gone (new_link c.args.from c.args.to) (live c.args.slots.now.items)
 
 pub merge_lists-requires-clause-there : goal.merge_lists-requires-clause-there
-merge_lists-requires-clause-there c = c.remove_link.ensures.kept c.args.to ∙ c.requires.there
+merge_lists-requires-clause-there c = c.remove_link.ensures.preserved c.args.to ∙ c.requires.there
 
 pub merge_lists-requires-clause-room : goal.merge_lists-requires-clause-room
 merge_lists-requires-clause-room c =
@@ -29,8 +29,8 @@ merge_lists-requires-clause-room c =
       arith,
       one,
       other,
-      count_kept (touches c.args.to) (λ m. not (same_link m c.new_link.result)) (live c.args.slots.now.items),
-      count_kept (touches c.args.from) (λ m. not (same_link m c.new_link.result)) (live c.args.slots.now.items),
+      count_preserved (touches c.args.to) (λ m. not (same_link m c.new_link.result)) (live c.args.slots.now.items),
+      count_preserved (touches c.args.from) (λ m. not (same_link m c.new_link.result)) (live c.args.slots.now.items),
       c.requires.room,
     )
 
@@ -42,5 +42,5 @@ returns-clause-links c =
     c.new_link.ensures
     ∙ links-closed c.args.from c.args.to (live c.args.slots.now.items)
 
-pub returns-clause-kept : goal.returns-clause-kept
-returns-clause-kept c n = c.merge_lists.ensures.kept n ∙ c.remove_link.ensures.kept n
+pub returns-clause-preserved : goal.returns-clause-preserved
+returns-clause-preserved c n = c.merge_lists.ensures.preserved n ∙ c.remove_link.ensures.preserved n

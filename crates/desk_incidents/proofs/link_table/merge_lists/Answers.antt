@@ -111,6 +111,6 @@ returns-clause-links c =
     (λ n. c.empty_list.ensures.lists n
     ∙ ap (λ (ks : List ℕ). cond (c.args.from == n) [] ks) (c.put_list.ensures.lists n))).1
 
-pub returns-clause-kept : goal.returns-clause-kept
-returns-clause-kept c n =
-    c.empty_list.ensures.there n ∙ c.put_list.ensures.there n ∙ c.merge_slots.ensures.kept n
+pub returns-clause-preserved : goal.returns-clause-preserved
+returns-clause-preserved c n =
+    c.empty_list.ensures.there n ∙ c.put_list.ensures.there n ∙ c.merge_slots.ensures.preserved n

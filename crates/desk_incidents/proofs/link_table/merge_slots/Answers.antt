@@ -17,7 +17,7 @@ loop-place-init c = record {
       (apart c.args.from c.args.to _ c.requires.apart c.requires.unlinked c.requires.table.ordered));
   room = c.requires.room;
   placed = λ n _ _. c.requires.table.indexed n;
-  kept = λ n. refl;
+  preserved = λ n. refl;
 }
 
 pub merge_place-requires-clause-linked : goal.merge_place-requires-clause-linked
@@ -63,7 +63,7 @@ loop-place-preserved c =
           c.loop-place.invariant.left));
       room = omega (arith, more, c.loop-place.invariant.room, c.merge_place.ensures.room);
       placed = c.merge_place.ensures.placed;
-      kept = λ n. c.merge_place.ensures.kept n ∙ c.loop-place.invariant.kept n;
+      preserved = λ n. c.merge_place.ensures.preserved n ∙ c.loop-place.invariant.preserved n;
     }
 
 pub returns-clause-slots : goal.returns-clause-slots

@@ -13,5 +13,5 @@ invariant-loop-place l = record {
   left : AreLinked l.from l.to (drop l.place-index l.among) l.slots.items;
   room : length (drop l.place-index l.among) ≤ spare l.ends;
   placed : IsPlacedElsewhere l.from l.to l.slots.items l.index.lists.entries;
-  kept : (n : ℕ) → has_list n l.index.lists.entries ≡ has_list n l.fn.index.lists.entries;
+  preserved : (n : ℕ) → has_list n l.index.lists.entries ≡ has_list n l.fn.index.lists.entries;
 }

@@ -8,5 +8,5 @@ returns-clause-table c =
     c.remove-2.new.self.lists.entries
     c.args.slot c.args.link c.requires.table c.requires.there c.remove.ensures.lists c.remove-2.ensures.lists
 
-pub returns-clause-kept : goal.returns-clause-kept
-returns-clause-kept c n = c.remove-2.ensures.there n ∙ c.remove.ensures.there n
+pub returns-clause-preserved : goal.returns-clause-preserved
+returns-clause-preserved c n = c.remove-2.ensures.there n ∙ c.remove.ensures.there n

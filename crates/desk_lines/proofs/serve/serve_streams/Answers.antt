@@ -25,7 +25,7 @@ loop-serving-preserved g c = (
   reads_on g.D.Handler.answers g.D.Handler.gives_up (g.I.ReadPieces.remaining c.args.reader.now)
       _ _ _ _ _ _ _ _ _ _ _ _ _ _ c.loop-serving.invariant.0 c.in-Ok-read_piece.ensures.bytes
       (rw c.in_default.is at c.take-back.ensures.ok) c.flush.ensures.bytes,
-  c.take-back.ensures.kept ∙ c.loop-serving.invariant.1,
+  c.take-back.ensures.preserved ∙ c.loop-serving.invariant.1,
   some_come g.D.Handler.answers g.D.Handler.gives_up _ _ _ _ _ _ _ _ _ c.loop-serving.invariant.2
       (rw c.in_default.is at c.take-back.ensures.ok),
   (

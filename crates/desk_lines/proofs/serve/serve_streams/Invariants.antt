@@ -10,7 +10,7 @@ invariant-loop-serving g l =
     IsUnderWay g.D.Handler.answers g.D.Handler.gives_up (g.I.ReadPieces.remaining l.fn.reader)
     (g.I.ReadPieces.remaining l.reader) l.fn.handler (g.O.WriteTexts.contents l.fn.writer) l.serving.line.bytes.items
     l.serving.line.is_long l.serving.handler (g.O.WriteTexts.contents l.writer)
-    × (g.D.Handler.kept l.serving.handler ≡ g.D.Handler.kept l.fn.handler)
+    × (g.D.Handler.preserved l.serving.handler ≡ g.D.Handler.preserved l.fn.handler)
     × HoldsSome l.serving.line.bytes.items l.serving.line.is_long
     × NoneFailed (g.I.ReadPieces.failed l.fn.reader) (g.I.ReadPieces.failed l.reader)
     (g.O.WriteTexts.failed l.fn.writer) (g.O.WriteTexts.failed l.writer)

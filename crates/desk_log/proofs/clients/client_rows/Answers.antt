@@ -18,16 +18,17 @@ loop-entry-preserved c =
     let new = c.in_ok-meet.field-0 in
     let h = c.loop-entry.invariant in
     let is : take (i + 1) log ≡ take i log ++ e ∷ [] = search (rules, take_more) in
-    let told : new ≡ not (has_entry_of e.client (take i log)) = c.in_ok-meet.ensures.new ∙ ap not (h.met e.client) in
+    let reported : new ≡ not (has_entry_of e.client (take i log)) =
+    c.in_ok-meet.ensures.new ∙ ap not (h.met e.client) in
     record {
       met = λ client. c.in_ok-meet.ensures.met client ∙ (ap (λ b. eqb e.client client || b) (h.met client)
           ∙ sym (has_client_push (take i log) _ e client is));
       rows = elim c.if-branch.branch [
         | then-branch+in_ok-push w ↦
             let pushed : c.if-branch.rows.items ≡ rows ++ client_row log e.client ∷ [] = search rules in
-            pushed ∙ rows_push log (take i log) _ e rows new h.rows is told (search rules)
+            pushed ∙ rows_push log (take i log) _ e rows new h.rows is reported (search rules)
         | else-branch w ↦
             let same : c.if-branch.rows.items ≡ rows = search rules in
-            same ∙ rows_same log (take i log) _ e rows new h.rows is told (search rules)
+            same ∙ rows_same log (take i log) _ e rows new h.rows is reported (search rules)
       ];
     }

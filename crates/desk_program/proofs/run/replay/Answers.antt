@@ -1,9 +1,9 @@
-use Rattle.desk_program.proofs.ToldFaults.{told_fault}
+use Rattle.desk_program.proofs.ReportedFaults.{reported_fault}
 use Rattle.desk_program.proofs.run.replay.Goals as goal
 
 pub returns-in-Err-clause-printed : goal.returns-in-Err-clause-printed
 returns-in-Err-clause-printed g c =
-    told_fault _ _ _ _ c.in-Err.fault c.fault_end.ensures.end c.in-Err.ensures.fault
+    reported_fault _ _ _ _ c.in-Err.fault c.fault_end.ensures.end c.in-Err.ensures.fault
     (record {
       whole = c.in-Err.ensures.whole;
       read = λ is. tt;

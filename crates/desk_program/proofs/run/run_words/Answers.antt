@@ -4,17 +4,17 @@ use Rattle.desk_options.specs.CommandLine.{AsksFor}
 use Rattle.desk_options.specs.declared.command_line.choice.Options.TheVariants.{Replay, World, Version}
 use Rattle.desk_options.specs.declared.host.HostRun.TheVariants as runs
 use Rattle.desk_options.proofs.Ranges.{run_in_range}
-use Rattle.desk_program.proofs.ToldFaults.{told_options_fault, told_as, options_calls}
+use Rattle.desk_program.proofs.ReportedFaults.{reported_options_fault, reported_as, options_calls}
 use Rattle.desk_program.proofs.run.run_words.Goals as goal
 
 pub returns-in-Err-clause-printed : goal.returns-in-Err-clause-printed
 returns-in-Err-clause-printed g c =
-    told_options_fault _ _ _ _ _ _ _ _ c.in-Err.fault c.options_end.ensures.end (Keeps-refl _) (Keeps-refl _)
+    reported_options_fault _ _ _ _ _ _ _ _ c.in-Err.fault c.options_end.ensures.end (Keeps-refl _) (Keeps-refl _)
     c.options_end.ensures.printed
 
 pub returns-in-Replay-clause-printed : goal.returns-in-Replay-clause-printed
 returns-in-Replay-clause-printed g c =
-    told_as _ _ _ _ _ (λ fault ends. inr (
+    reported_as _ _ _ _ _ (λ fault ends. inr (
       Replay c.in-Replay.options,
       subst (AsksFor _) (sym c.set_seed.ensures ∙ c.in-Replay.is) c.in-Ok.ensures.asked,
       ends,
@@ -22,7 +22,7 @@ returns-in-Replay-clause-printed g c =
 
 pub returns-in-World-clause-printed : goal.returns-in-World-clause-printed
 returns-in-World-clause-printed g c =
-    told_as _ _ _ _ _ (λ fault ends. inr (
+    reported_as _ _ _ _ _ (λ fault ends. inr (
       World c.in-World.options,
       subst (AsksFor _) (sym c.set_seed.ensures ∙ c.in-World.is) c.in-Ok.ensures.asked,
       ends,
@@ -30,7 +30,7 @@ returns-in-World-clause-printed g c =
 
 pub returns-in-Version-clause-printed : goal.returns-in-Version-clause-printed
 returns-in-Version-clause-printed g c =
-    told_as _ _ _ _ _ (λ fault ends. inr (
+    reported_as _ _ _ _ _ (λ fault ends. inr (
       Version,
       subst (AsksFor _) (sym c.set_seed.ensures ∙ c.in-Version.is) c.in-Ok.ensures.asked,
       ends,

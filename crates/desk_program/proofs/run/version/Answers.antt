@@ -1,4 +1,4 @@
-use Rattle.desk_program.proofs.ToldFaults.{version_calls}
+use Rattle.desk_program.proofs.ReportedFaults.{version_calls}
 use Rattle.desk_program.proofs.run.version.Goals as goal
 
 pub returns-in-Err-clause-calls : goal.returns-in-Err-clause-calls

@@ -16,9 +16,10 @@ loop-held-preserved g c =
       room = search rules;
       least = omega arith;
       within = search rules;
-      kept = subst (λ l. Keeps (prepend_known (take c.args.first c.args.room.now) (g.R.Read.remaining c.args.inner.now))
+      preserved = subst (λ l. Keeps (prepend_known (take c.args.first c.args.room.now)
+          (g.R.Read.remaining c.args.inner.now))
           (prepend_known l (g.R.Read.remaining c.read.new.self))) (sym filled)
-          (held_more _ _ _ _ _ before.kept c.in-Ok.ensures.bytes.0);
+          (held_more _ _ _ _ _ before.preserved c.in-Ok.ensures.bytes.0);
       front = take-put_mid_below c.loop-held.held room c.loop-held.room c.read.new.buf c.args.first before.least within
           ∙ before.front;
     }

@@ -7,7 +7,7 @@ invariant-loop-held g l = record {
   room : length l.room ≡ length l.fn.room;
   least : l.first ≤ l.held;
   within : l.held ≤ l.wanted;
-  kept : Keeps (prepend_known (take l.first l.fn.room) (g.R.Read.remaining l.fn.inner))
+  preserved : Keeps (prepend_known (take l.first l.fn.room) (g.R.Read.remaining l.fn.inner))
       (prepend_known (take l.held l.room) (g.R.Read.remaining l.inner));
   front : take l.first l.room ≡ take l.first l.fn.room;
 }

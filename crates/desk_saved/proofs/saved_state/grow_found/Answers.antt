@@ -8,7 +8,7 @@ use Rattle.desk_saved.specs.Causes.{HasNoTransaction}
 use Rattle.desk_saved.specs.Clients.{clients_of, settle_all}
 use Rattle.desk_saved.specs.File.{client_rows}
 use Rattle.desk_saved.proofs.Causes.{one_cause}
-use Rattle.desk_saved.proofs.Changing.{undone_told}
+use Rattle.desk_saved.proofs.Changing.{undone_reported}
 use Rattle.desk_saved.proofs.GrownFiles.{may_grow, saves_grown, not_at_all}
 use Rattle.desk_saved.proofs.SaveSteps.{own_is}
 use Rattle.desk_saved.proofs.Settling.{clients_from_none}
@@ -67,6 +67,6 @@ returns-in_default-clause-refused g c =
       may = may_grow g.S.Store before after owner last _ perm given same all _ (tt, (own, tt)) refl
           (tt, (tt, (tt, tt))) c.in_transaction-grown.result grown.done grown.keeps.1 grown.keeps.0;
       shows =
-          undone_told g.S.Store given before after c.in_transaction-grown.result same (λ is. grind arith)
+          undone_reported g.S.Store given before after c.in_transaction-grown.result same (λ is. grind arith)
           grown.undone grown.busy;
     })

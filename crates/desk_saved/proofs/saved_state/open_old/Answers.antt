@@ -65,7 +65,7 @@ returns-in-Err-clause-refused g c old =
     let auto : IsTrue c.is_autocommit-is_settled.result = search rules in
     let free : before.in_transaction ≡ false = search rules in
     old_refused g.S.Store c.args.connection c.load_old.new.conn c.args.owner old c.load_old.ensures.keeps.1
-    c.load_old.ensures.left c.in-Err.told (search rules) (λ wrong. absurd (search rules))
+    c.load_old.ensures.left c.in-Err.reported (search rules) (λ wrong. absurd (search rules))
     (λ wrong. absurd (search rules)) (λ is clean d schema. c.in-Err.ensures.want_of_memory clean d schema is)
     (λ is clean d schema.
     c.in-Err.ensures.store_fault clean

@@ -32,14 +32,14 @@ returns-in_err-commit-clause-done g c =
     let missing = c.args.missing in
     let same : c.commit.new.self.0 ≡ c.conn-2-1.given.0 = sym (c.conn-2-1.given.1
     (sym (c.write.ensures.same_reference ∙ c.transaction-tx.ensures.same_reference))) in
-    let told = subst (λ h. Transacts g.S.Store old h (StandsBefore missing) (AreApt all) (Err lost) (effects all)
+    let reported = subst (λ h. Transacts g.S.Store old h (StandsBefore missing) (AreApt all) (Err lost) (effects all)
     (AllByRecursion IsFitStep all) (SparesAll missing all)) same
     (transacts g.S.Store old c.transaction-tx.result.conn.now c.write.new.tx.conn.now c.commit.new.self.0
     (StandsBefore missing) (AreApt all) (effects all) _ _ c.transaction-tx.ensures.begun c.in_ok-write.ensures.makes
     c.in_ok-write.ensures.fits c.commit.ensures.survives (Err lost) tt) in
     record {
       rows = λ clean open_ live d rows stands apt. search rules;
-      crash = told.crash;
+      crash = reported.crash;
       fits = search rules;
-      commits = told.commits;
+      commits = reported.commits;
     }

@@ -18,21 +18,21 @@ failed_once : {T : Type 0} (answer : Option T) (old mid new : ℕ) → answer �
 failed_once None old mid new none same failed = subst (λ n. HasFailedOnce n new) same failed
 failed_once (Some t) old mid new none same failed = absurd (let no : ⊥ = cc none in no)
 
-pub returns-in-Some-clause-kept : goal.returns-in-Some-clause-kept
-returns-in-Some-clause-kept g c =
+pub returns-in-Some-clause-preserved : goal.returns-in-Some-clause-preserved
+returns-in-Some-clause-preserved g c =
     begins_still c.read-reader.result.1 _ _ _ _ c.learn-reader.ensures.pass c.read-reader.ensures.read
 
-pub returns-in-Some-clause-told : goal.returns-in-Some-clause-told
-returns-in-Some-clause-told g c =
-    begins_still c.read-reader.result.1 _ _ _ _ c.learn-reader.ensures.told c.read-reader.ensures.read
+pub returns-in-Some-clause-reported : goal.returns-in-Some-clause-reported
+returns-in-Some-clause-reported g c =
+    begins_still c.read-reader.result.1 _ _ _ _ c.learn-reader.ensures.reported c.read-reader.ensures.read
 
-pub returns-in-None-clause-kept : goal.returns-in-None-clause-kept
-returns-in-None-clause-kept g c =
+pub returns-in-None-clause-preserved : goal.returns-in-None-clause-preserved
+returns-in-None-clause-preserved g c =
     begins_still c.read-reader.result.1 _ _ _ _ c.learn-reader.ensures.pass c.read-reader.ensures.read
 
-pub returns-in-None-clause-told : goal.returns-in-None-clause-told
-returns-in-None-clause-told g c =
-    begins_still c.read-reader.result.1 _ _ _ _ c.learn-reader.ensures.told c.read-reader.ensures.read
+pub returns-in-None-clause-reported : goal.returns-in-None-clause-reported
+returns-in-None-clause-reported g c =
+    begins_still c.read-reader.result.1 _ _ _ _ c.learn-reader.ensures.reported c.read-reader.ensures.read
 
 pub returns-in-None-clause-ok : goal.returns-in-None-clause-ok
 returns-in-None-clause-ok g c = inr (

@@ -11,8 +11,8 @@ use Rattle.desk_threads.proofs.shared_save.act_all_and_save.Goals as goal
 pub save_state-outcome-requires-clause-within : goal.save_state-outcome-requires-clause-within
 save_state-outcome-requires-clause-within g c =
     let last = g.S.StateStore.last c.args.store.now in
-    (front_after c.commit-before.result c.saved.result.now c.args.turn.kept.node.saved last
-    c.fill-turn.result.kept.node.saved c.saved-2.result.now c.commit-before.ensures.value
+    (front_after c.commit-before.result c.saved.result.now c.args.turn.owned.node.saved last
+    c.fill-turn.result.owned.node.saved c.saved-2.result.now c.commit-before.ensures.value
     c.commit-before.ensures.within (c.saved.ensures ∙ ap (λ (n : NodeValue). n.saved) c.node.ensures)
     c.requires.last (c.saved-2.ensures ∙ ap (λ (n : NodeValue). n.saved) c.node-2.ensures)
     (prefix_trans _ _ _ c.add-turn.ensures.committed c.fill-turn.ensures.committed)).0
@@ -20,8 +20,8 @@ save_state-outcome-requires-clause-within g c =
 pub save_state-outcome-requires-clause-same : goal.save_state-outcome-requires-clause-same
 save_state-outcome-requires-clause-same g c =
     let last = g.S.StateStore.last c.args.store.now in
-    (front_after c.commit-before.result c.saved.result.now c.args.turn.kept.node.saved last
-    c.fill-turn.result.kept.node.saved c.saved-2.result.now c.commit-before.ensures.value
+    (front_after c.commit-before.result c.saved.result.now c.args.turn.owned.node.saved last
+    c.fill-turn.result.owned.node.saved c.saved-2.result.now c.commit-before.ensures.value
     c.commit-before.ensures.within (c.saved.ensures ∙ ap (λ (n : NodeValue). n.saved) c.node.ensures)
     c.requires.last (c.saved-2.ensures ∙ ap (λ (n : NodeValue). n.saved) c.node-2.ensures)
     (prefix_trans _ _ _ c.add-turn.ensures.committed c.fill-turn.ensures.committed)).1
@@ -32,7 +32,7 @@ returns-clause-did g c =
       f.0,
       f.1,
       taken_after _ _ _ f.0 f.2.0 (ap taken_by c.add-turn.ensures.taker),
-      did_then c.args.turn.kept c.add-turn.result.kept c.fill-turn.result.kept c.args.turn.steps.items
+      did_then c.args.turn.owned c.add-turn.result.owned c.fill-turn.result.owned c.args.turn.steps.items
           c.add-turn.result.steps.items c.fill-turn.result.steps.items (c.args.item ∷ []) (items_in f.0)
           c.add-turn.ensures.did f.2.1,
       f.3 (c.args.item ∷ []) c.args.turn.waiting c.add-turn.ensures.noted,

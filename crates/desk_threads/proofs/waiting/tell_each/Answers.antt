@@ -7,8 +7,8 @@ use Rattle.desk_threads.proofs.waiting.tell_each.Goals as goal
 pub loop-session-preserved : goal.loop-session-preserved
 loop-session-preserved g c =
     let loop = c.loop-session in
-    let told = Tells (published c.args.writer.now.inner) in
-    zipped_more told c.args.sessions.now.items loop.session-items loop.session-index c.session-item.result
+    let reported = Tells (published c.args.writer.now.inner) in
+    zipped_more reported c.args.sessions.now.items loop.session-items loop.session-index c.session-item.result
     c.tell.new.self
     (omega (arith, c.loop-session-test.true, loop.auto.session-items, loop.auto.session-index-end)) loop.invariant
     c.tell.ensures

@@ -4,7 +4,7 @@ use Rattle.desk_index.specs.Places.{at_in}
 use Rattle.desk_index.specs.Slots.{live, standing}
 use Rattle.desk_units.specs.declared.unit.UnitPair.{UnitPair}
 use Rattle.desk_units.specs.PairTable.{IsPairTable}
-use Rattle.desk_units.proofs.NameTables.{name-stands, name-within, name-removed, name-kept, IsNameTable-removed}
+use Rattle.desk_units.proofs.NameTables.{name-stands, name-within, name-removed, name-preserved, IsNameTable-removed}
 use Rattle.desk_units.proofs.NameTables.{IsNameTable-absent}
 use Rattle.desk_units.proofs.PairTables.{placed-removed, number-stands, no-longer}
 use Rattle.desk_units.proofs.unit_pairs.take_pair.Goals as goal
@@ -76,7 +76,7 @@ returns-in_default-number_in-clause-pairs c =
 
 pub returns-in_default-clause-pairs : goal.returns-in_default-clause-pairs
 returns-in_default-clause-pairs c =
-    name-kept (λ p. p.unit) c.args.slots.now.items c.args.by_unit.now.entries c.args.unit.now
+    name-preserved (λ p. p.unit) c.args.slots.now.items c.args.by_unit.now.entries c.args.unit.now
     c.requires.named (sym c.take_name.ensures.slot ∙ c.in_default.is)
 
 pub returns-in-Some-number_in-clause-places_room : goal.returns-in-Some-number_in-clause-places_room

@@ -113,12 +113,12 @@ fn shown_at_last(board: &Board, show: &Show) -> Option<Shown> {
 
 /// Whether an outcome is told by this line, told again where memory for it is refused.
 fn is_told_at_last(alloc: Global, outcome: Outcome, line: &str) -> bool {
-    let told = match reply_line(alloc, &outcome) {
-        Ok(told) => Some(told),
+    let reported = match reply_line(alloc, &outcome) {
+        Ok(reported) => Some(reported),
         Err(_) => reply_line(alloc, &outcome).ok(),
     };
     drop(outcome);
-    is_line(told, line)
+    is_line(reported, line)
 }
 
 /// Whether the reply to an entry is told by this line.
@@ -156,14 +156,14 @@ fn is_answered_at_last(
 ) -> bool {
     match asked_at_last(alloc, board.len().saturating_add(1), members) {
         Ok(Ask::Command(entry)) => {
-            let is_told = is_reply_told(alloc, board, rows, &entry, line);
+            let is_reported = is_reply_told(alloc, board, rows, &entry, line);
             drop(entry);
-            is_told
+            is_reported
         }
         Ok(Ask::Show(show)) => {
-            let is_told = is_show_told(alloc, board, &show, line);
+            let is_reported = is_show_told(alloc, board, &show, line);
             drop(show);
-            is_told
+            is_reported
         }
         Err(_) => false,
     }

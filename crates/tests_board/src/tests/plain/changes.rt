@@ -3,7 +3,7 @@
 use super::{Asked, Incident, Pair, PlainBoard, is_among, link_of, of};
 
 fn push(pairs: &mut Vec<Pair>, what: u64, incident: u64) {
-    let _kept = pairs.push((what, incident));
+    let _pushed = pairs.push((what, incident));
 }
 
 /// Gives each pair of a call or a unit this second number.
@@ -42,7 +42,7 @@ fn move_links(links: &mut Vec<Pair>, from: u64, to: u64) {
 impl PlainBoard {
     /// Puts an incident last, and gives its number.
     fn open(&mut self, id: u64, asked: &Asked) -> u64 {
-        let _kept = self.incidents.push(Incident {
+        let _pushed = self.incidents.push(Incident {
             id,
             place: self.count,
             kind: asked.kind,

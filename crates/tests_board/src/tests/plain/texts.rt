@@ -26,7 +26,7 @@ pub(super) fn status_word(status: u64) -> &'static str {
 impl Line {
     /// Puts the identifier of an incident after a text, and nothing where it is none.
     pub(super) fn put_incident(&mut self, before: &str, id: u64) {
-        let _kept = if id >= HANDED_IN {
+        let _written = if id >= HANDED_IN {
             write!(
                 self.text,
                 "{before}\"urn:nena:uid:incidentid:i{id}:psap.example\""
@@ -44,7 +44,7 @@ impl Line {
     /// Puts the identifier of a call after a text, and nothing where it is none.
     fn put_call(&mut self, before: &str, call: u64) {
         if call > 0 {
-            let _kept = write!(
+            let _written = write!(
                 self.text,
                 "{before}\"urn:nena:uid:callid:c{call}:psap.example\""
             );
@@ -53,7 +53,7 @@ impl Line {
 
     /// Puts the name of a unit after a text.
     pub(super) fn put_unit(&mut self, before: &str, unit: u64) {
-        let _kept = write!(self.text, "{before}\"E{unit}\"");
+        let _written = write!(self.text, "{before}\"E{unit}\"");
     }
 
     /// Puts the calls of an incident.

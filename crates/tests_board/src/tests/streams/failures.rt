@@ -36,7 +36,7 @@ fn ended_by(alloc: Global, run: &Run, side: Side, calls: Calls) -> u8 {
 }
 
 /// What is told of the call that fails.
-fn told(side: Side) -> u8 {
+fn reported(side: Side) -> u8 {
     match side {
         Side::Reads => 43,
         Side::Writes => 44,
@@ -51,7 +51,7 @@ fn failures(alloc: Global, run: &Run, side: Side, goes_on: bool) -> Option<u64> 
         if number == 0 {
             return Some(passing);
         }
-        if number != told(side) {
+        if number != reported(side) {
             return None;
         }
     }

@@ -7,7 +7,7 @@ use super::super::keeping::{Given, end_keeper, handled_in_turns, item_of, put_wi
 use super::super::opening::open_at;
 use desk_log::{MemoryStore, StateStore};
 use desk_mailbox::{GatheredMailbox, SentItem, Taker, open_mailbox};
-use desk_threads::{BoardName, Item, Keeper, KeptNode, NewHistory, Sender, gather};
+use desk_threads::{BoardName, Item, Keeper, NewHistory, OwnedNode, Sender, gather};
 use desk_types::Domain;
 use std::alloc::Global;
 use std::marker::Brand;
@@ -88,7 +88,7 @@ fn a_mailbox_is_gathered_at_last(rt: HostRuntime) {
 struct EndRow {
     /// What it does in one turn, which a stop ends, if it does that.
     turn: &'static [Given],
-    behind: &'static [Given],
+    after: &'static [Given],
     /// What is left in the mailbox, as `order_of` gives it.
     left: u64,
     /// The entries of the log where no item was refused. All of them are committed.
@@ -99,7 +99,7 @@ struct EndRow {
 const ROWS: &[EndRow] = &[
     EndRow {
         turn: &[],
-        behind: &[
+        after: &[
             Given::Request(7),
             Given::Tick,
             Given::Answer(1),
@@ -110,7 +110,7 @@ const ROWS: &[EndRow] = &[
     },
     EndRow {
         turn: &[Given::Request(7), Given::Answer(1), Given::Stop],
-        behind: &[
+        after: &[
             Given::Request(8),
             Given::Tick,
             Given::Answer(2),
@@ -159,7 +159,7 @@ fn do_turn<B: BoardName, S: StateStore, R: Wait>(
     ensures { SendsTo result.0.taker result.1 }
 {
     let sender = put_items(rt, alloc, sender, row.turn);
-    let sender = put_items(rt, alloc, sender, row.behind);
+    let sender = put_items(rt, alloc, sender, row.after);
     if row.turn.is_empty() {
         return (keeper, sender);
     }
@@ -177,8 +177,8 @@ fn is_rest_left<B: BoardName, S: StateStore + Drop, R: Wait>(
 ) -> bool
     requires { SendsTo keeper.taker sender }
 {
-    let (taker, kept, store) = keeper.end(rt);
-    drop(kept);
+    let (taker, preserved, store) = keeper.end(rt);
+    drop(preserved);
     drop(store);
     let mailbox = GatheredMailbox::new(alloc, taker);
     let (mailbox, sender, first) = mailbox.sender(rt, sender);
@@ -189,10 +189,10 @@ fn is_rest_left<B: BoardName, S: StateStore + Drop, R: Wait>(
 }
 
 /// Whether a node did what its keeper took.
-fn is_taken_done(kept: &KeptNode, row: &EndRow) -> bool {
-    let saved = kept.node().saved();
+fn is_taken_done(preserved: &OwnedNode, row: &EndRow) -> bool {
+    let saved = preserved.node().saved();
     let done = (saved.log().len(), saved.commit());
-    kept.refused() != 0 || done == (row.entries, row.entries)
+    preserved.refused() != 0 || done == (row.entries, row.entries)
 }
 
 /// Whether a keeper that ends finds all that a sender put, at the second time at the latest, and did what it took.
@@ -209,9 +209,9 @@ fn is_found<B: BoardName, S: StateStore + Drop, R: Wait>(
     let (gathered, sender, second) = gathered.sender(rt, sender);
     drop(sender);
     let _ = first;
-    let (kept, store) = gathered.end(rt);
+    let (preserved, store) = gathered.end(rt);
     drop(store);
-    second.is_ok() && is_taken_done(&kept, row)
+    second.is_ok() && is_taken_done(&preserved, row)
 }
 
 /// The last sender of a keeper.

@@ -18,7 +18,7 @@ struct Row {
     /// The packets that go out, where that is said.
     packets: Option<u64>,
     /// The session is told, where that is said.
-    is_told: Option<bool>,
+    is_reported: Option<bool>,
 }
 
 /// An item, how often it is given, the view, the entries and the commit after it, the packets, and whether the session
@@ -48,14 +48,14 @@ const BACKUP: &[ItemRow] = &[
 
 /// A row, of which a keeper that goes on says no more than where its log stands.
 fn row_of(row: ItemRow, goes_on: bool) -> Row {
-    let (given, _, view, entries, commit, packets, is_told) = row;
+    let (given, _, view, entries, commit, packets, is_reported) = row;
     Row {
         given,
         view: if goes_on { None } else { Some(view) },
         entries,
         commit,
         packets: if goes_on { None } else { Some(packets) },
-        is_told: if goes_on { None } else { Some(is_told) },
+        is_reported: if goes_on { None } else { Some(is_reported) },
     }
 }
 
@@ -120,7 +120,7 @@ fn tick_after(row: Row) -> Row {
     Row {
         given: Given::Tick,
         packets: None,
-        is_told: None,
+        is_reported: None,
         ..row
     }
 }
@@ -153,8 +153,8 @@ fn do_row<N: Serves>(alloc: Global, near: N, row: Row) -> (N, Came) {
     if came != Came::Done {
         return (near, came);
     }
-    let is_told = near.hear() != Heard::Nothing;
-    let is_well = row.is_told.unwrap_or(is_told) == is_told;
+    let is_reported = near.hear() != Heard::Nothing;
+    let is_well = row.is_reported.unwrap_or(is_reported) == is_reported;
     (near, if is_well { Came::Done } else { Came::Wrong })
 }
 

@@ -130,9 +130,9 @@ fn end_turns<N: Serves>(
 /// state before all of the turn that failed, or the one after all.
 fn is_before_or_behind(stand: Stand, row: &TurnRow, packets: u64) -> bool {
     let found = (stand.entries, stand.commit);
-    for &(sent, before, behind) in row.faults {
+    for &(sent, before, after) in row.faults {
         if sent == packets {
-            return found == before || found == behind;
+            return found == before || found == after;
         }
     }
     false

@@ -103,7 +103,7 @@ fn bytes_of_save(alloc: Global, count: u32) -> Option<usize> {
 // refuse a save that writes the table of clients again, or the whole log.
 #[test]
 fn a_save_writes_no_row_that_stays(rt: HostRuntime) {
-    let behind_few = bytes_of_save(rt.alloc(), 10).unwrap_or(0);
-    let behind_many = bytes_of_save(rt.alloc(), 400).unwrap_or(1);
-    assert!(rt; behind_few == behind_many, "{behind_few} {behind_many}");
+    let few = bytes_of_save(rt.alloc(), 10).unwrap_or(0);
+    let many = bytes_of_save(rt.alloc(), 400).unwrap_or(1);
+    assert!(rt; few == many, "{few} {many}");
 }

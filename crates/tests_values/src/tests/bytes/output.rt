@@ -38,22 +38,22 @@ const WAYS: &[Way] = &[
 ];
 
 /// Whether a writer with room for so many bytes of a frame of 75 has taken these, and just so many are told to be sent.
-fn is_told(alloc: Global, frame: &[u8], room: usize, way: Way) -> bool {
+fn is_reported(alloc: Global, frame: &[u8], room: usize, way: Way) -> bool {
     let mut sink = Sink::in_pieces(Vec::new(alloc), way.0);
     sink.room = room;
     sink.at_end = way.1;
     let wanted = if room < 75 { (44, room) } else { (0, 75) };
-    let told = written(alloc, &mut sink, frame);
+    let reported = written(alloc, &mut sink, frame);
     let are_taken = sink.bytes.as_slice() == piece(frame, 0, room);
     drop(sink);
-    told == wanted && are_taken
+    reported == wanted && are_taken
 }
 
 /// The first room with which something else is told.
 fn first_wrong(alloc: Global, frame: &[u8]) -> Option<usize> {
     for room in 0..76 {
         for &way in WAYS {
-            if !is_told(alloc, frame, room, way) {
+            if !is_reported(alloc, frame, room, way) {
                 return Some(room);
             }
         }

@@ -504,7 +504,7 @@ const NO_ENTRIES: &[(&[u8], usize)] = &[
 const KINDS: usize = 9;
 
 /// With how many bytes, one by one, 42 comes, and nothing before it: 0 where it doesn't.
-fn told_with(alloc: Global, bytes: &[u8]) -> usize {
+fn reported_with(alloc: Global, bytes: &[u8]) -> usize {
     let Ok(mut reader) = FrameReader::new(alloc) else {
         return 0;
     };
@@ -525,7 +525,7 @@ fn told_with(alloc: Global, bytes: &[u8]) -> usize {
 fn first_untold(alloc: Global, rows: &[(&[&[u8]], usize)]) -> Option<usize> {
     for (index, row) in rows.iter().enumerate() {
         if let Ok(bytes) = joined(alloc, row.0)
-            && told_with(alloc, bytes.as_slice()) != row.1
+            && reported_with(alloc, bytes.as_slice()) != row.1
         {
             return Some(index);
         }
@@ -561,8 +561,10 @@ fn is_told_in_each(alloc: Global, row: &(&[u8], usize)) -> bool {
         let Ok(mut bytes) = joined(alloc, front) else {
             return false;
         };
-        let told = bytes.len().saturating_add(row.1);
-        if bytes.extend_from_slice(row.0).is_err() || told_with(alloc, bytes.as_slice()) != told {
+        let reported = bytes.len().saturating_add(row.1);
+        if bytes.extend_from_slice(row.0).is_err()
+            || reported_with(alloc, bytes.as_slice()) != reported
+        {
             return false;
         }
     }
@@ -589,7 +591,7 @@ fn is_told_where_it_ends(alloc: Global, parts: &[&[u8]]) -> bool {
         let mut cut = Vec::new(alloc);
         let is_made = cut.extend_from_slice(&length.to_be_bytes()).is_ok()
             && cut.extend_from_slice(packet).is_ok();
-        if !is_made || told_with(alloc, cut.as_slice()) != (length as usize).saturating_add(4) {
+        if !is_made || reported_with(alloc, cut.as_slice()) != (length as usize).saturating_add(4) {
             return false;
         }
     }

@@ -5,7 +5,7 @@ use Rattle.std.specs.Vec.Iter.{into_iter_items}
 use Rattle.desk_frames.proofs.Receiving.{parts_of, first_more}
 use Rattle.desk_answer.specs.AnswerFile.{IsEither}
 use Rattle.desk_answer.proofs.FileAfterAnswers.{followed_nothing, followed_more, left_more}
-use Rattle.desk_answer.proofs.SentInOrder.{prefix_behind, sent_nothing, sent_more, but_last_more}
+use Rattle.desk_answer.proofs.SentInOrder.{prefix_after, sent_nothing, sent_more, but_last_more}
 use Rattle.desk_answer.proofs.StepsInOrder.{same_refl, same_trans}
 use Rattle.desk_answer.proofs.stream.steps.answer_packets.Goals as goal
 
@@ -35,7 +35,7 @@ returns-in_err-answer_packet-clause-cut_short g c =
     (parts_of c.args.packets.items c.into_iter-packet-iterator.result c.loop-packet.yielded
     c.loop-packet.packet-iterator c.in-Some.packet c.next.new.self
     c.into_iter-packet-iterator.ensures.into_iter_gives.0 c.loop-packet.yielded_by c.in-Some.ensures.steps)
-    (sent_more _ _ _ (prefix_behind _ _ _) c.args.node.now c.loop-packet.node c.loop-packet.yielded
+    (sent_more _ _ _ (prefix_after _ _ _) c.args.node.now c.loop-packet.node c.loop-packet.yielded
     c.loop-packet.invariant.sent c.answer_packet.new.node) (c.in_err-answer_packet.ensures.cut_short send))
 
 pub returns-in_err-answer_packet-clause-unsaved : goal.returns-in_err-answer_packet-clause-unsaved

@@ -6,7 +6,7 @@ use Rattle.desk_log.specs.SavedValue.{SavedValue}
 use Rattle.desk_node.specs.NodeValue.{NodeValue}
 use Rattle.desk_answer.specs.AnswerFile.{LeavesFile, IsEither}
 use Rattle.desk_log.proofs.KnownPrefix.{front_after, memory_no_store}
-use Rattle.desk_saved.proofs.KeptFile.{kept_by_save}
+use Rattle.desk_saved.proofs.SameFile.{preserved_by_save}
 use Rattle.desk_answer.proofs.FileAfterAnswers.{saved_once, refused_once, left_by_save, store_refusal}
 use Rattle.desk_answer.proofs.FileAfterAnswers.{unsaved_never, followed_nothing, followed_still}
 use Rattle.desk_answer.proofs.StepsInOrder.{stepped_once}
@@ -56,7 +56,7 @@ returns-clause-file g c =
     let h = c.in_ok-save_after.ensures.last in
     saved_once g.S.Store c.args.file.now c.save_after.new.self c.args.node.now.saved c.step.new.self.saved
     c.save_after.ensures.same_own c.save_after.ensures.clean c.in_ok-packets.field-0.packets
-    (h.0 ∙ c.saved-2.ensures, h.1, h.2) (kept_by_save g.S.Store _ _ _ _ c.in_ok-save_after.ensures)
+    (h.0 ∙ c.saved-2.ensures, h.1, h.2) (preserved_by_save g.S.Store _ _ _ _ c.in_ok-save_after.ensures)
 
 pub returns-clause-ok : goal.returns-clause-ok
 returns-clause-ok g c =

@@ -5,12 +5,12 @@ use Rattle.desk_epoch_node.proofs.past_logs.PastLogs.followed_by.Goals as goal
 
 pub returns-clause-stand : goal.returns-clause-stand
 returns-clause-stand c past s =
-    let kept : StandFor past (record { rows = c.self.inside.rows.entries; length = c.self.inside.length }) =
+    let preserved : StandFor past (record { rows = c.self.inside.rows.entries; length = c.self.inside.length }) =
     subst (λ (p : PastValue). StandFor past p) (sym c.self.view_is) s in
     record {
-      length_is = omega (arith, kept.length_is, length-append past c.args.entries.now);
+      length_is = omega (arith, preserved.length_is, length-append past c.args.entries.now);
       rows_are =
-          c.in_ok-set_rows.ensures past kept.length_is
+          c.in_ok-set_rows.ensures past preserved.length_is
           (λ client. ap (λ (rows : List (ℕ × PastRow)). latest_row rows client) c.in_ok-rows.ensures
-          ∙ kept.rows_are client);
+          ∙ preserved.rows_are client);
     }

@@ -1,9 +1,9 @@
 use Rattle.std.proofs.Common.{List, ℕ, ◌∙◌, sym, subst, ap, take, [], ◌≡◌}
 use Rattle.std.proofs.lemmas.List.{with_items_is}
 use Rattle.desk_types.specs.declared.packet.Message.{Message}
-use Rattle.desk_frames.specs.Frame.{StillKept, position}
+use Rattle.desk_frames.specs.Frame.{StillPreserved, position}
 use Rattle.desk_frames.specs.Stream.{Standing, Came}
-use Rattle.desk_frames.proofs.Feeds.{came_taken, kept_count, stands_same}
+use Rattle.desk_frames.proofs.Feeds.{came_taken, preserved_count, stands_same}
 use Rattle.desk_frames.proofs.cutter.FrameCutter.take.Goals as goal
 
 pub undo-requires-clause-count : goal.undo-requires-clause-count
@@ -11,20 +11,20 @@ undo-requires-clause-count c =
     let f = c.self.inside.frame in
     let g = c.cut_piece.new.frame in
     let ms = c.cut_piece.new.packets.items in
-    let kept : StillKept f [] g ms =
-    subst (λ (ns : List Message). StillKept f ns g ms) c.new-packets.ensures.items c.in-Err.ensures.err in
+    let preserved : StillPreserved f [] g ms =
+    subst (λ (ns : List Message). StillPreserved f ns g ms) c.new-packets.ensures.items c.in-Err.ensures.err in
     rw c.count-count.ensures
-    (kept_count f g ms (rw (sym c.place-place.ensures.value) c.place-place.ensures.stands) kept).0
+    (preserved_count f g ms (rw (sym c.place-place.ensures.value) c.place-place.ensures.stands) preserved).0
 
 pub undo-requires-clause-stands : goal.undo-requires-clause-stands
 undo-requires-clause-stands c =
     let f = c.self.inside.frame in
     let g = c.cut_piece.new.frame in
     let ms = c.cut_piece.new.packets.items in
-    let kept : StillKept f [] g ms =
-    subst (λ (ns : List Message). StillKept f ns g ms) c.new-packets.ensures.items c.in-Err.ensures.err in
+    let preserved : StillPreserved f [] g ms =
+    subst (λ (ns : List Message). StillPreserved f ns g ms) c.new-packets.ensures.items c.in-Err.ensures.err in
     rw c.count-count.ensures
-    (rw (kept_count f g ms (rw (sym c.place-place.ensures.value) c.place-place.ensures.stands) kept).1
+    (rw (preserved_count f g ms (rw (sym c.place-place.ensures.value) c.place-place.ensures.stands) preserved).1
     c.place-place.ensures.stands)
 
 pub returns-in-Ok-clause-ok : goal.returns-in-Ok-clause-ok
@@ -49,12 +49,12 @@ returns-in-Err-clause-err c =
     let g = c.cut_piece.new.frame in
     let ms = c.cut_piece.new.packets.items in
     let filled = c.self.inside.filled in
-    let kept : StillKept f [] g ms =
-    subst (λ (ns : List Message). StillKept f ns g ms) c.new-packets.ensures.items c.in-Err.ensures.err in
+    let preserved : StillPreserved f [] g ms =
+    subst (λ (ns : List Message). StillPreserved f ns g ms) c.new-packets.ensures.items c.in-Err.ensures.err in
     let written = with_items_is c.self.inside.room c.cut_piece.new.room
     (c.cut_piece.ensures.room ∙ sym c.self.invariant.0 ∙ sym c.self.inside.room.ok.0) in
     subst (λ (room : List ℕ). position c.undo.new.frame (take filled room) ≡ c.args.self.now) (sym written)
     (stands_same f g c.undo.new.frame ms c.place-place.result c.count-count.result (take filled c.cut_piece.new.room)
-    (take filled c.self.inside.room.items) (rw (sym c.place-place.ensures.value) c.place-place.ensures.stands) kept
+    (take filled c.self.inside.room.items) (rw (sym c.place-place.ensures.value) c.place-place.ensures.stands) preserved
     c.place-place.ensures.value c.count-count.ensures c.undo.ensures
     (c.in-Err.ensures.unchanged ∙ ap (take filled) c.as_mut_slice.ensures.value) ∙ c.self.view_is)

@@ -1,6 +1,6 @@
 use Rattle.std.proofs.Common.{ap, subst, ◌∙◌, arith, None}
 use Rattle.desk_frames.specs.declared.frame.Place.TheVariants as places
-use Rattle.desk_frames.specs.Frame.{FrameState, Taken, behind_length}
+use Rattle.desk_frames.specs.Frame.{FrameState, Taken, place_after_length}
 use Rattle.desk_frames.proofs.Keeping.{same_keeps}
 use Rattle.desk_frames.proofs.Steps.{length_moves, length_covers}
 use Rattle.desk_frames.proofs.frame.OpenFrame.take_length.Goals as goal
@@ -8,7 +8,7 @@ use Rattle.desk_frames.proofs.frame.OpenFrame.take_length.Goals as goal
 pub returns : goal.returns
 returns c =
     let old : FrameState = record { place = c.self.inside.place; entries = c.self.inside.entries.items } in
-    let p = c.behind_length-self-inside.result in
+    let p = c.place_after_length-self-inside.result in
     let new : FrameState = record { place = p; entries = c.self.inside.entries.items } in
     let bytes = c.args.bytes.now in
     let begins = ap (λ (f : FrameState). f.place) c.self.view_is ∙ c.requires.place in
@@ -16,7 +16,7 @@ returns c =
       within = omega arith;
       some = omega arith;
       moved = (length_moves old begins c.self.invariant bytes (omega arith) (λ i. omega (arith, c.type_inv.bytes i)) p
-          (c.behind_length-self-inside.ensures ∙ ap behind_length c.length_told.ensures)).0;
+          (c.place_after_length-self-inside.ensures ∙ ap place_after_length c.length_announced.ensures)).0;
       keeps = same_keeps old places.Length p begins tt;
       covers = length_covers old begins c.self.invariant bytes (omega arith)
           (λ i. omega (arith, c.type_inv.bytes i));

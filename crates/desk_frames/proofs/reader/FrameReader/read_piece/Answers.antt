@@ -65,7 +65,7 @@ returns-in-Err-clause-err g c = (
   c.in-Err.ensures.fault,
   unread c.self.inside.waiting c.self.inside.room.items _ c.self.invariant.0
       (ap (λ (v : ReaderState). v.waiting) c.self.view_is ∙ c.requires.nothing),
-  c.in-Err.ensures.kept,
+  c.in-Err.ensures.preserved,
 )
 
 pub returns-in-Err-clause-limit : goal.returns-in-Err-clause-limit

@@ -46,10 +46,10 @@ returns-in-Some-number_at-clause-pairs c =
     (map pair_of c.self.inside.table.entries) (sym c.place_of.ensures ∙ c.in-Some.is ∙ ap Some plain)
     ∙ ap (update_first (is_call c.args.call.now) (call_of_incident c.args.number)) (ap (λ v. v.pairs) c.self.view_is)
 
-pub returns-in-Some-number_at-clause-kept : goal.returns-in-Some-number_at-clause-kept
-returns-in-Some-number_at-clause-kept c =
+pub returns-in-Some-number_at-clause-preserved : goal.returns-in-Some-number_at-clause-preserved
+returns-in-Some-number_at-clause-preserved c =
     listed-same c.self.inside.index.lists.entries c.give_at.new.index.lists.entries
-    (λ n. c.give_at.ensures.listed n ∙ c.install.ensures.kept n) c.args.self.now.listed
+    (λ n. c.give_at.ensures.listed n ∙ c.install.ensures.preserved n) c.args.self.now.listed
     (ap (λ v. v.listed) c.self.view_is)
 
 pub returns-in_default-number_at-clause-pairs : goal.returns-in_default-number_at-clause-pairs
@@ -61,9 +61,9 @@ returns-in_default-number_at-clause-pairs c =
     (first-within (is_call c.args.call.now) 0 c.in-Some.place (map pair_of c.self.inside.table.entries) at)
     (sym c.number_at.ensures ∙ c.in_default-number_at.is))
 
-pub returns-in_default-number_at-clause-kept : goal.returns-in_default-number_at-clause-kept
-returns-in_default-number_at-clause-kept c =
-    listed-same c.self.inside.index.lists.entries c.install.new.self.lists.entries c.install.ensures.kept
+pub returns-in_default-number_at-clause-preserved : goal.returns-in_default-number_at-clause-preserved
+returns-in_default-number_at-clause-preserved c =
+    listed-same c.self.inside.index.lists.entries c.install.new.self.lists.entries c.install.ensures.preserved
     c.args.self.now.listed (ap (λ v. v.listed) c.self.view_is)
 
 pub returns-in_default-clause-pairs : goal.returns-in_default-clause-pairs
@@ -72,7 +72,7 @@ returns-in_default-clause-pairs c =
     (map pair_of c.self.inside.table.entries) (sym c.place_of.ensures ∙ c.in_default.is))
     ∙ ap (update_first (is_call c.args.call.now) (call_of_incident c.args.number)) (ap (λ v. v.pairs) c.self.view_is)
 
-pub returns-in_default-clause-kept : goal.returns-in_default-clause-kept
-returns-in_default-clause-kept c =
-    listed-same c.self.inside.index.lists.entries c.install.new.self.lists.entries c.install.ensures.kept
+pub returns-in_default-clause-preserved : goal.returns-in_default-clause-preserved
+returns-in_default-clause-preserved c =
+    listed-same c.self.inside.index.lists.entries c.install.new.self.lists.entries c.install.ensures.preserved
     c.args.self.now.listed (ap (λ v. v.listed) c.self.view_is)

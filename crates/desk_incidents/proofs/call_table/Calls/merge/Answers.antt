@@ -40,8 +40,8 @@ move_calls-requires-clause-room c =
     ap (λ (ks : List ℕ). length ks) (c.install.ensures.lists c.args.from) in
     omega (arith, there, here, to_same, from_same, c.requires.room, c.install.ensures.room)
 
-pub returns-clause-kept : goal.returns-clause-kept
-returns-clause-kept c =
+pub returns-clause-preserved : goal.returns-clause-preserved
+returns-clause-preserved c =
     listed-same c.self.inside.index.lists.entries c.move_calls.new.index.lists.entries
-    (λ n. c.move_calls.ensures.kept n ∙ c.install.ensures.kept n) c.args.self.now.listed
+    (λ n. c.move_calls.ensures.preserved n ∙ c.install.ensures.preserved n) c.args.self.now.listed
     (ap (λ v. v.listed) c.self.view_is)

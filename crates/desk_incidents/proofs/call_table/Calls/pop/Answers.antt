@@ -14,7 +14,7 @@ invariant_of-self c q =
     ∙ ap (places (is_of q) 0) (map-append pair_of c.pop.new.self.entries ((c.in-Some._call, c.in-Some.number) ∷ [])))
     refl (c.pop-in-Some.ensures.lists q)
 
-pub returns-in-Some-clause-kept : goal.returns-in-Some-clause-kept
-returns-in-Some-clause-kept c =
+pub returns-in-Some-clause-preserved : goal.returns-in-Some-clause-preserved
+returns-in-Some-clause-preserved c =
     listed-same c.self.inside.index.lists.entries c.pop-in-Some.new.self.lists.entries c.pop-in-Some.ensures.there
     c.args.self.now.listed (ap (λ v. v.listed) c.self.view_is)

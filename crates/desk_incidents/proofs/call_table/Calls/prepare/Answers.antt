@@ -1,13 +1,13 @@
 use Rattle.std.proofs.Common.{◌≡◌, ◌∙◌, ℕ, List, length, sym, ap, arith}
 use Rattle.std.proofs.lemmas.Result.{IfOk-weaker}
 use Rattle.desk_incidents.specs.Calls.{call_count}
-use Rattle.desk_incidents.proofs.CallEntries.{listed-kept, count-at}
+use Rattle.desk_incidents.proofs.CallEntries.{listed-preserved, count-at}
 use Rattle.desk_index.proofs.IndexChanges.{has_list-listed}
 use Rattle.desk_incidents.proofs.call_table.Calls.prepare.Goals as goal
 
-pub returns-in_err-reserve-clause-kept : goal.returns-in_err-reserve-clause-kept
-returns-in_err-reserve-clause-kept c =
-    listed-kept c.self.inside.index.lists.entries c.reserve.new.self.lists.entries c.reserve.ensures.kept
+pub returns-in_err-reserve-clause-preserved : goal.returns-in_err-reserve-clause-preserved
+returns-in_err-reserve-clause-preserved c =
+    listed-preserved c.self.inside.index.lists.entries c.reserve.new.self.lists.entries c.reserve.ensures.preserved
     c.args.self.now.listed (ap (λ v. v.listed) c.self.view_is)
 
 pub returns-clause-listed : goal.returns-clause-listed
@@ -16,9 +16,9 @@ returns-clause-listed c =
     (λ _ _. sym (has_list-listed c.args.number c.reserve.new.self.lists.entries) ∙ c.in_ok-reserve.ensures.there)
     c.with_room.ensures.room
 
-pub returns-clause-kept : goal.returns-clause-kept
-returns-clause-kept c =
-    listed-kept c.self.inside.index.lists.entries c.reserve.new.self.lists.entries c.reserve.ensures.kept
+pub returns-clause-preserved : goal.returns-clause-preserved
+returns-clause-preserved c =
+    listed-preserved c.self.inside.index.lists.entries c.reserve.new.self.lists.entries c.reserve.ensures.preserved
     c.args.self.now.listed (ap (λ v. v.listed) c.self.view_is)
 
 pub returns-clause-room : goal.returns-clause-room

@@ -7,7 +7,7 @@ use Rattle.desk_incidents.specs.declared.incident.HasCall.{HasCall}
 use Rattle.desk_incidents.specs.CallTable.{pair_of}
 use Rattle.desk_incidents.specs.Calls.{is_call, is_of}
 use Rattle.desk_index.specs.Slots.{places}
-use Rattle.desk_incidents.proofs.CallEntries.{insert_entry-new, places-last, listed-kept}
+use Rattle.desk_incidents.proofs.CallEntries.{insert_entry-new, places-last, listed-preserved}
 use Rattle.desk_incidents.proofs.call_table.Calls.push.Goals as goal
 
 pub invariant_of-self-2 : goal.invariant_of-self-2
@@ -41,13 +41,13 @@ returns-clause-ok c =
     ∙ ap (λ (ps : List HasCall). ps ++ record { incident = c.args.number; call = c.args.call } ∷ [])
     (ap (λ v. v.pairs) c.self.view_is)
 
-pub returns-in_err-reserve-2-clause-kept : goal.returns-in_err-reserve-2-clause-kept
-returns-in_err-reserve-2-clause-kept c =
-    listed-kept c.self.inside.index.lists.entries c.reserve-2.new.self.lists.entries c.reserve-2.ensures.kept
+pub returns-in_err-reserve-2-clause-preserved : goal.returns-in_err-reserve-2-clause-preserved
+returns-in_err-reserve-2-clause-preserved c =
+    listed-preserved c.self.inside.index.lists.entries c.reserve-2.new.self.lists.entries c.reserve-2.ensures.preserved
     c.args.self.now.listed (ap (λ v. v.listed) c.self.view_is)
 
-pub returns-clause-kept : goal.returns-clause-kept
-returns-clause-kept c =
-    listed-kept c.self.inside.index.lists.entries c.push.new.self.lists.entries
-    (λ n h. c.push.ensures.there n ∙ c.reserve-2.ensures.kept n h) c.args.self.now.listed
+pub returns-clause-preserved : goal.returns-clause-preserved
+returns-clause-preserved c =
+    listed-preserved c.self.inside.index.lists.entries c.push.new.self.lists.entries
+    (λ n h. c.push.ensures.there n ∙ c.reserve-2.ensures.preserved n h) c.args.self.now.listed
     (ap (λ v. v.listed) c.self.view_is)

@@ -13,8 +13,8 @@ returns-in-Some-clause-ends c n m =
     c.index_mut.result.now
     c.args.ends (sym c.in-Some.ensures.index) there refl n
 
-pub returns-in-Some-clause-kept : goal.returns-in-Some-clause-kept
-returns-in-Some-clause-kept c n =
+pub returns-in-Some-clause-preserved : goal.returns-in-Some-clause-preserved
+returns-in-Some-clause-preserved c n =
     let there : lookup (nat_eq c.args.number) c.args.self.now.sets.entries ≡ Some c.index_mut.result.now =
     sym c.in-Some.ensures.value ∙ c.index_mut.ensures.value in
     has_list-set c.args.self.now.sets.entries c.args.number c.in-Some.index c.index_mut.result.now

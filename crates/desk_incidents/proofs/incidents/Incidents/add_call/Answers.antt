@@ -1,7 +1,7 @@
 use Rattle.std.proofs.Common.{◌≡◌, ℕ, List, false, sym, subst}
 use Rattle.std.specs.List.{list_any}
 use Rattle.desk_incidents.specs.Calls.{is_call}
-use Rattle.desk_incidents.proofs.Listed.{AreListed-kept, new-call}
+use Rattle.desk_incidents.proofs.Listed.{AreListed-preserved, new-call}
 use Rattle.desk_incidents.proofs.incidents.Incidents.add_call.Goals as goal
 
 pub push-requires : goal.push-requires
@@ -11,7 +11,8 @@ push-requires c =
 
 pub invariant_of-self : goal.invariant_of-self
 invariant_of-self c = (
-  AreListed-kept c.self.inside.has_call.listed c.push.new.self.listed c.push.ensures.kept c.self.inside.incidents
+  AreListed-preserved c.self.inside.has_call.listed c.push.new.self.listed c.push.ensures.preserved
+      c.self.inside.incidents
       c.self.invariant.0,
   c.self.invariant.1,
 )

@@ -9,7 +9,7 @@ use Rattle.desk_incidents.specs.Calls.{call_count}
 use Rattle.desk_incidents.specs.LinkTable.{touches}
 use Rattle.desk_incidents.specs.Checks.{incident_of, number_of}
 use Rattle.desk_incidents.specs.Merge.{PreparedMergeValue}
-use Rattle.desk_incidents.proofs.Listed.{AreListed-kept, AreListed-changed, AreListed-number}
+use Rattle.desk_incidents.proofs.Listed.{AreListed-preserved, AreListed-changed, AreListed-number}
 use Rattle.desk_incidents.proofs.incidents.Incidents.finish_merge.Goals as goal
 
 pub merge-requires-clause-listed : goal.merge-requires-clause-listed
@@ -62,10 +62,12 @@ pub invariant_of-self : goal.invariant_of-self
 invariant_of-self c = (
   subst (λ (is : List Incident). AreListed c.merge.new.self.listed is) (sym c.set_state.ensures)
       (AreListed-changed c.merge.new.self.listed _ _ (λ i. refl) c.self.inside.incidents
-      (AreListed-kept c.self.inside.has_call.listed c.merge.new.self.listed (λ n h. c.merge.ensures.kept n ∙ h)
+      (AreListed-preserved c.self.inside.has_call.listed c.merge.new.self.listed
+      (λ n h. c.merge.ensures.preserved n ∙ h)
       c.self.inside.incidents c.self.invariant.0)),
   subst (λ (is : List Incident). AreListed c.merge-2.new.self.listed is) (sym c.set_state.ensures)
       (AreListed-changed c.merge-2.new.self.listed _ _ (λ i. refl) c.self.inside.incidents
-      (AreListed-kept c.self.inside.linked.listed c.merge-2.new.self.listed (λ n h. c.merge-2.ensures.kept n ∙ h)
+      (AreListed-preserved c.self.inside.linked.listed c.merge-2.new.self.listed
+      (λ n h. c.merge-2.ensures.preserved n ∙ h)
       c.self.inside.incidents c.self.invariant.1)),
 )

@@ -8,7 +8,7 @@ use Rattle.desk_incidents.specs.IncidentsValue.{IncidentsValue}
 use Rattle.desk_incidents.specs.Calls.{call_refusal}
 use Rattle.desk_incidents.specs.Checks.{id_refusal, new_incident}
 use Rattle.desk_incidents.specs.Verbs.{incidents_after_open}
-use Rattle.desk_incidents.proofs.Listed.{AreListed-kept, AreListed-push, new-pair, second-passes}
+use Rattle.desk_incidents.proofs.Listed.{AreListed-preserved, AreListed-push, new-pair, second-passes}
 use Rattle.desk_incidents.proofs.Outcomes.{memory_refused, verb_refused, of_parts}
 use Rattle.desk_incidents.proofs.incidents.Incidents.open.Goals as goal
 
@@ -23,7 +23,7 @@ push_incident-requires c h s =
 pub invariant_of-self : goal.invariant_of-self
 invariant_of-self c = (
   c.self.invariant.0,
-  AreListed-kept c.self.inside.linked.listed c.reserve.new.self.listed c.in_err-reserve.ensures.kept
+  AreListed-preserved c.self.inside.linked.listed c.reserve.new.self.listed c.in_err-reserve.ensures.preserved
       c.self.inside.incidents c.self.invariant.1,
 )
 
@@ -31,10 +31,10 @@ pub invariant_of-self-in_err-push_incident : goal.invariant_of-self-in_err-push_
 invariant_of-self-in_err-push_incident c =
     subst (λ (is : List Incident).
     AreListed c.push_incident.new.has_call.listed is × AreListed c.reserve.new.self.listed is)
-    (sym c.in_err-push_incident.ensures.incidents_kept) (
-      AreListed-kept c.self.inside.has_call.listed c.push_incident.new.has_call.listed
-          c.in_err-push_incident.ensures.kept c.self.inside.incidents c.self.invariant.0,
-      AreListed-kept c.self.inside.linked.listed c.reserve.new.self.listed c.in_ok-reserve.ensures.kept
+    (sym c.in_err-push_incident.ensures.incidents_preserved) (
+      AreListed-preserved c.self.inside.has_call.listed c.push_incident.new.has_call.listed
+          c.in_err-push_incident.ensures.preserved c.self.inside.incidents c.self.invariant.0,
+      AreListed-preserved c.self.inside.linked.listed c.reserve.new.self.listed c.in_ok-reserve.ensures.preserved
           c.self.inside.incidents c.self.invariant.1,
     )
 
@@ -43,12 +43,12 @@ invariant_of-self-2 c = (
   subst (λ (is : List Incident). AreListed c.push_incident.new.has_call.listed is)
       (sym c.in_ok-push_incident.ensures.incidents)
       (AreListed-push c.push_incident.new.has_call.listed c.self.inside.incidents c.in_ok-opened.opened
-      (AreListed-kept c.self.inside.has_call.listed c.push_incident.new.has_call.listed
-      c.in_ok-push_incident.ensures.kept c.self.inside.incidents c.self.invariant.0)
+      (AreListed-preserved c.self.inside.has_call.listed c.push_incident.new.has_call.listed
+      c.in_ok-push_incident.ensures.preserved c.self.inside.incidents c.self.invariant.0)
       c.in_ok-push_incident.ensures.listed),
   subst (λ (is : List Incident). AreListed c.reserve.new.self.listed is) (sym c.in_ok-push_incident.ensures.incidents)
       (AreListed-push c.reserve.new.self.listed c.self.inside.incidents c.in_ok-opened.opened
-      (AreListed-kept c.self.inside.linked.listed c.reserve.new.self.listed c.in_ok-reserve.ensures.kept
+      (AreListed-preserved c.self.inside.linked.listed c.reserve.new.self.listed c.in_ok-reserve.ensures.preserved
       c.self.inside.incidents c.self.invariant.1)
       (ap (λ (i : Incident). is_listed i.number c.reserve.new.self.listed) c.in_ok-opened.ensures
       ∙ c.in_ok-reserve.ensures.listed)),
@@ -93,7 +93,8 @@ returns-in_err-push_incident c = record {
   settles =
       memory_refused _ _ _ _ _ c.from_residual-in_err-push_incident.result
       c.from_residual-in_err-push_incident.ensures.1
-      (of_parts _ _ _ _ _ _ c.in_err-push_incident.ensures.incidents_kept c.in_err-push_incident.ensures.has_call_kept
+      (of_parts _ _ _ _ _ _ c.in_err-push_incident.ensures.incidents_preserved
+      c.in_err-push_incident.ensures.has_call_preserved
       c.in_ok-reserve.ensures.pairs ∙ c.self.view_is);
 }
 

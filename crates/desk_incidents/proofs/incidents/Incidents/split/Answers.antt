@@ -8,22 +8,22 @@ use Rattle.desk_incidents.specs.Verbs.{incidents_after_split}
 use Rattle.desk_incidents.specs.declared.incident.Incident.{Incident}
 use Rattle.desk_incidents.specs.CallTable.{AreListed}
 use Rattle.desk_index.specs.Places.{is_listed}
-use Rattle.desk_incidents.proofs.Listed.{AreListed-kept, AreListed-push}
+use Rattle.desk_incidents.proofs.Listed.{AreListed-preserved, AreListed-push}
 use Rattle.desk_incidents.proofs.Outcomes.{memory_refused, verb_refused, of_parts}
 use Rattle.desk_incidents.proofs.incidents.Incidents.split.Goals as goal
 
 pub invariant_of-self : goal.invariant_of-self
 invariant_of-self c = (
   c.self.invariant.0,
-  AreListed-kept c.self.inside.linked.listed c.reserve.new.self.listed c.in_err-reserve.ensures.kept
+  AreListed-preserved c.self.inside.linked.listed c.reserve.new.self.listed c.in_err-reserve.ensures.preserved
       c.self.inside.incidents c.self.invariant.1,
 )
 
 pub invariant_of-self-in_err-room : goal.invariant_of-self-in_err-room
 invariant_of-self-in_err-room c = (
-  AreListed-kept c.self.inside.has_call.listed c.prepare.new.self.listed c.in_err-room.ensures.kept
+  AreListed-preserved c.self.inside.has_call.listed c.prepare.new.self.listed c.in_err-room.ensures.preserved
       c.self.inside.incidents c.self.invariant.0,
-  AreListed-kept c.self.inside.linked.listed c.reserve.new.self.listed c.in_ok-reserve.ensures.kept
+  AreListed-preserved c.self.inside.linked.listed c.reserve.new.self.listed c.in_ok-reserve.ensures.preserved
       c.self.inside.incidents c.self.invariant.1,
 )
 
@@ -31,9 +31,9 @@ pub invariant_of-self-in_err-push : goal.invariant_of-self-in_err-push
 invariant_of-self-in_err-push c =
     subst (λ (is : List Incident). AreListed c.prepare.new.self.listed is × AreListed c.reserve.new.self.listed is)
     (sym c.in_err-push.ensures.err) (
-      AreListed-kept c.self.inside.has_call.listed c.prepare.new.self.listed c.in_ok-room.ensures.kept
+      AreListed-preserved c.self.inside.has_call.listed c.prepare.new.self.listed c.in_ok-room.ensures.preserved
           c.self.inside.incidents c.self.invariant.0,
-      AreListed-kept c.self.inside.linked.listed c.reserve.new.self.listed c.in_ok-reserve.ensures.kept
+      AreListed-preserved c.self.inside.linked.listed c.reserve.new.self.listed c.in_ok-reserve.ensures.preserved
           c.self.inside.incidents c.self.invariant.1,
     )
 
@@ -41,13 +41,14 @@ pub invariant_of-self-2 : goal.invariant_of-self-2
 invariant_of-self-2 c = (
   subst (λ (is : List Incident). AreListed c.give_call.new.self.listed is) (sym c.in_ok-push.ensures.ok)
       (AreListed-push c.give_call.new.self.listed c.self.inside.incidents c.in_ok-opened.opened
-      (AreListed-kept c.self.inside.has_call.listed c.give_call.new.self.listed
-      (λ n h. c.give_call.ensures.kept n ∙ c.in_ok-room.ensures.kept n h) c.self.inside.incidents c.self.invariant.0)
+      (AreListed-preserved c.self.inside.has_call.listed c.give_call.new.self.listed
+      (λ n h. c.give_call.ensures.preserved n ∙ c.in_ok-room.ensures.preserved n h) c.self.inside.incidents
+      c.self.invariant.0)
       (ap (λ (i : Incident). is_listed i.number c.give_call.new.self.listed) c.in_ok-opened.ensures
-      ∙ c.give_call.ensures.kept c.args.details.now.place ∙ c.in_ok-room.ensures.listed)),
+      ∙ c.give_call.ensures.preserved c.args.details.now.place ∙ c.in_ok-room.ensures.listed)),
   subst (λ (is : List Incident). AreListed c.reserve.new.self.listed is) (sym c.in_ok-push.ensures.ok)
       (AreListed-push c.reserve.new.self.listed c.self.inside.incidents c.in_ok-opened.opened
-      (AreListed-kept c.self.inside.linked.listed c.reserve.new.self.listed c.in_ok-reserve.ensures.kept
+      (AreListed-preserved c.self.inside.linked.listed c.reserve.new.self.listed c.in_ok-reserve.ensures.preserved
       c.self.inside.incidents c.self.invariant.1)
       (ap (λ (i : Incident). is_listed i.number c.reserve.new.self.listed) c.in_ok-opened.ensures
       ∙ c.in_ok-reserve.ensures.listed)),

@@ -51,7 +51,7 @@ note_all-requires c =
 
 pub put-requires : goal.put-requires
 put-requires c =
-    c.forget_all.ensures.kept c.args.to
+    c.forget_all.ensures.preserved c.args.to
     ∙ (and_parts _ _ (sym (both-listed c.args.to c.self.inside.index.lists.entries c.self.inside.ends.sets.entries)
     ∙ ap (is_listed c.args.to) (ap (λ v. v.listed) c.self.view_is) ∙ c.requires.listed)).1
 
@@ -81,9 +81,9 @@ invariant_of-self c = (
       (λ n m. c.empty.ensures.ends n m ∙ ap (λ (t : Bool). cond (c.args.from == n) false t) (c.put.ensures.ends n m)),
 )
 
-pub returns-clause-kept : goal.returns-clause-kept
-returns-clause-kept c =
+pub returns-clause-preserved : goal.returns-clause-preserved
+returns-clause-preserved c =
     both-same c.self.inside.index.lists.entries c.merge_links.new.index.lists.entries
-    c.self.inside.ends.sets.entries c.empty.new.self.sets.entries c.merge_links.ensures.kept
-    (λ n. c.empty.ensures.kept n ∙ c.put.ensures.kept n ∙ c.forget_all.ensures.kept n)
+    c.self.inside.ends.sets.entries c.empty.new.self.sets.entries c.merge_links.ensures.preserved
+    (λ n. c.empty.ensures.preserved n ∙ c.put.ensures.preserved n ∙ c.forget_all.ensures.preserved n)
     c.args.self.now.listed (ap (λ v. v.listed) c.self.view_is)

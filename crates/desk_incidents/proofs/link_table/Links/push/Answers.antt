@@ -7,27 +7,27 @@ use Rattle.desk_index.specs.Places.{at_in}
 use Rattle.desk_index.specs.Slots.{live}
 use Rattle.desk_index.proofs.Slots.{live-push}
 use Rattle.desk_incidents.specs.EndSets.{AreNoted}
-use Rattle.desk_incidents.proofs.NotedMerges.{both-kept, noted-same, noted-pushed}
+use Rattle.desk_incidents.proofs.NotedMerges.{both-preserved, noted-same, noted-pushed}
 use Rattle.desk_incidents.proofs.LinkEntries.{IsLinkTable-reserved}
 use Rattle.desk_incidents.proofs.LinkTables.{IsLinkTable-pushed}
 use Rattle.desk_incidents.proofs.link_table.Links.push.Goals as goal
 
-pub returns-in_err-open-clause-kept : goal.returns-in_err-open-clause-kept
-returns-in_err-open-clause-kept c =
-    both-kept c.self.inside.index.lists.entries c.self.inside.index.lists.entries c.self.inside.ends.sets.entries
-    c.open.new.self.sets.entries (λ n h. h) c.open.ensures.kept
+pub returns-in_err-open-clause-preserved : goal.returns-in_err-open-clause-preserved
+returns-in_err-open-clause-preserved c =
+    both-preserved c.self.inside.index.lists.entries c.self.inside.index.lists.entries c.self.inside.ends.sets.entries
+    c.open.new.self.sets.entries (λ n h. h) c.open.ensures.preserved
     c.args.self.now.listed (ap (λ v. v.listed) c.self.view_is)
 
-pub returns-in_err-grow-clause-kept : goal.returns-in_err-grow-clause-kept
-returns-in_err-grow-clause-kept c =
-    both-kept c.self.inside.index.lists.entries c.self.inside.index.lists.entries c.self.inside.ends.sets.entries
-    c.grow.new.self.sets.entries (λ n h. h) (λ n h. c.grow.ensures.kept n ∙ c.open.ensures.kept n h)
+pub returns-in_err-grow-clause-preserved : goal.returns-in_err-grow-clause-preserved
+returns-in_err-grow-clause-preserved c =
+    both-preserved c.self.inside.index.lists.entries c.self.inside.index.lists.entries c.self.inside.ends.sets.entries
+    c.grow.new.self.sets.entries (λ n h. h) (λ n h. c.grow.ensures.preserved n ∙ c.open.ensures.preserved n h)
     c.args.self.now.listed (ap (λ v. v.listed) c.self.view_is)
 
-pub returns-in_err-reserve-clause-kept : goal.returns-in_err-reserve-clause-kept
-returns-in_err-reserve-clause-kept c =
-    both-kept c.self.inside.index.lists.entries c.self.inside.index.lists.entries c.self.inside.ends.sets.entries
-    c.grow.new.self.sets.entries (λ n h. h) (λ n h. c.grow.ensures.kept n ∙ c.open.ensures.kept n h)
+pub returns-in_err-reserve-clause-preserved : goal.returns-in_err-reserve-clause-preserved
+returns-in_err-reserve-clause-preserved c =
+    both-preserved c.self.inside.index.lists.entries c.self.inside.index.lists.entries c.self.inside.ends.sets.entries
+    c.grow.new.self.sets.entries (λ n h. h) (λ n h. c.grow.ensures.preserved n ∙ c.open.ensures.preserved n h)
     c.args.self.now.listed (ap (λ v. v.listed) c.self.view_is)
 
 pub invariant_of-self-in_err-reserve-2 : goal.invariant_of-self-in_err-reserve-2
@@ -41,10 +41,11 @@ invariant_of-self-in_err-reserve-2 c =
           (λ n m. c.grow.ensures.ends n m ∙ c.open.ensures.ends n m) c.self.invariant.1,
     )
 
-pub returns-in_err-reserve-2-clause-kept : goal.returns-in_err-reserve-2-clause-kept
-returns-in_err-reserve-2-clause-kept c =
-    both-kept c.self.inside.index.lists.entries c.reserve-2.new.self.lists.entries c.self.inside.ends.sets.entries
-    c.grow.new.self.sets.entries c.reserve-2.ensures.kept (λ n h. c.grow.ensures.kept n ∙ c.open.ensures.kept n h)
+pub returns-in_err-reserve-2-clause-preserved : goal.returns-in_err-reserve-2-clause-preserved
+returns-in_err-reserve-2-clause-preserved c =
+    both-preserved c.self.inside.index.lists.entries c.reserve-2.new.self.lists.entries c.self.inside.ends.sets.entries
+    c.grow.new.self.sets.entries c.reserve-2.ensures.preserved
+    (λ n h. c.grow.ensures.preserved n ∙ c.open.ensures.preserved n h)
     c.args.self.now.listed (ap (λ v. v.listed) c.self.view_is)
 
 pub invariant_of-self-in_err-reserve-3 : goal.invariant_of-self-in_err-reserve-3
@@ -59,11 +60,11 @@ invariant_of-self-in_err-reserve-3 c =
           (λ n m. c.grow.ensures.ends n m ∙ c.open.ensures.ends n m) c.self.invariant.1,
     )
 
-pub returns-in_err-reserve-3-clause-kept : goal.returns-in_err-reserve-3-clause-kept
-returns-in_err-reserve-3-clause-kept c =
-    both-kept c.self.inside.index.lists.entries c.reserve-3.new.self.lists.entries c.self.inside.ends.sets.entries
-    c.grow.new.self.sets.entries (λ n h. c.reserve-3.ensures.kept n (c.reserve-2.ensures.kept n h))
-    (λ n h. c.grow.ensures.kept n ∙ c.open.ensures.kept n h)
+pub returns-in_err-reserve-3-clause-preserved : goal.returns-in_err-reserve-3-clause-preserved
+returns-in_err-reserve-3-clause-preserved c =
+    both-preserved c.self.inside.index.lists.entries c.reserve-3.new.self.lists.entries c.self.inside.ends.sets.entries
+    c.grow.new.self.sets.entries (λ n h. c.reserve-3.ensures.preserved n (c.reserve-2.ensures.preserved n h))
+    (λ n h. c.grow.ensures.preserved n ∙ c.open.ensures.preserved n h)
     c.args.self.now.listed (ap (λ v. v.listed) c.self.view_is)
 
 pub invariant_of-self-2 : goal.invariant_of-self-2
@@ -104,11 +105,11 @@ returns-clause-ok c =
     ap (λ (ys : List (Option Linked)). live ys) grown ∙ live-push c.self.inside.slots.items c.args.link
     ∙ ap (λ (ls : List Linked). ls ++ c.args.link ∷ []) (ap (λ v. v.pairs) c.self.view_is)
 
-pub returns-clause-kept : goal.returns-clause-kept
-returns-clause-kept c =
-    both-kept c.self.inside.index.lists.entries c.push-2.new.self.lists.entries c.self.inside.ends.sets.entries
+pub returns-clause-preserved : goal.returns-clause-preserved
+returns-clause-preserved c =
+    both-preserved c.self.inside.index.lists.entries c.push-2.new.self.lists.entries c.self.inside.ends.sets.entries
     c.note.new.self.sets.entries
     (λ n h. c.push-2.ensures.there n ∙ c.push.ensures.there n
-    ∙ c.reserve-3.ensures.kept n (c.reserve-2.ensures.kept n h))
-    (λ n h. c.note.ensures.kept n ∙ c.grow.ensures.kept n ∙ c.open.ensures.kept n h)
+    ∙ c.reserve-3.ensures.preserved n (c.reserve-2.ensures.preserved n h))
+    (λ n h. c.note.ensures.preserved n ∙ c.grow.ensures.preserved n ∙ c.open.ensures.preserved n h)
     c.args.self.now.listed (ap (λ v. v.listed) c.self.view_is)

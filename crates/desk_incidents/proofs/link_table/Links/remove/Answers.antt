@@ -24,11 +24,11 @@ returns-then-has-clause-pairs c =
     c.remove_link.ensures.links ∙ ap (λ (ls : List Linked). without_link c.args.link ls)
     (ap (λ v. v.pairs) c.self.view_is)
 
-pub returns-then-has-clause-kept : goal.returns-then-has-clause-kept
-returns-then-has-clause-kept c =
+pub returns-then-has-clause-preserved : goal.returns-then-has-clause-preserved
+returns-then-has-clause-preserved c =
     both-same c.self.inside.index.lists.entries c.remove_link.new.index.lists.entries
-    c.self.inside.ends.sets.entries c.forget_link.new.sets.sets.entries c.remove_link.ensures.kept
-    c.forget_link.ensures.kept c.args.self.now.listed (ap (λ v. v.listed) c.self.view_is)
+    c.self.inside.ends.sets.entries c.forget_link.new.sets.sets.entries c.remove_link.ensures.preserved
+    c.forget_link.ensures.preserved c.args.self.now.listed (ap (λ v. v.listed) c.self.view_is)
 
 pub returns-else-has-clause-pairs : goal.returns-else-has-clause-pairs
 returns-else-has-clause-pairs c = not-there c.args.link c.args.self.now.pairs (sym c.has.ensures ∙ c.if-has.false)

@@ -32,7 +32,7 @@ runs-preserved g c =
     let cut = subst (IsCut c.runs.rest.now) (sym c.in-Some.ensures) (split_at-cuts c.runs.rest.now) in (
       taken_line g.D.Handler.answers g.D.Handler.gives_up _ _ _ _ _ _ _ _ _ _ _ _ _ _ _ _
           c.runs.invariant.0 cut.0 (rw c.in_default-outcome.is at c.take_line-back.ensures.ok),
-      c.take_line-back.ensures.kept ∙ c.runs.invariant.1,
+      c.take_line-back.ensures.preserved ∙ c.runs.invariant.1,
       λ line h. let come = c.runs.invariant.0.2 line h in
           (rw c.in_default-outcome.is at (c.take_line-back.ensures.calls come.1 come.2)) ∙ c.runs.invariant.2 line h,
     )

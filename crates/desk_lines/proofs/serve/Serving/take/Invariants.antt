@@ -8,7 +8,7 @@ invariant-runs g l =
     HasTaken g.D.Handler.answers g.D.Handler.gives_up l.bytes l.rest
     l.fn.self.handler (g.W.WriteTexts.contents l.fn.writer) l.fn.self.line.bytes.items l.fn.self.line.is_long
     l.serving.line.bytes.items l.serving.line.is_long l.serving.handler (g.W.WriteTexts.contents l.writer)
-    × (g.D.Handler.kept l.serving.handler ≡ g.D.Handler.kept l.fn.self.handler)
+    × (g.D.Handler.preserved l.serving.handler ≡ g.D.Handler.preserved l.fn.self.handler)
     × ((line : List ℕ) → HasCome l.fn.self.line.bytes.items l.fn.self.line.is_long line →
     g.W.WriteTexts.failed l.writer ≡ g.W.WriteTexts.failed l.fn.writer)
 

@@ -14,5 +14,5 @@ loop-entry-preserved c =
       forgets =
           forgets_push (take i entries) _ e c.args.self.now c.loop-entry.self c.forget.new.self h.forgets is
           c.forget.ensures.place;
-      kept = λ client room. c.forget.ensures.kept client (h.kept client room);
+      preserved = λ client room. c.forget.ensures.preserved client (h.preserved client room);
     }

@@ -14,7 +14,7 @@ loop-entry-preserved c =
     record {
       same = λ client. made.same client ∙ h.same client;
       room =
-          room_push (take i entries) _ e c.loop-entry.self c.reserve.new.self h.room is made.kept
+          room_push (take i entries) _ e c.loop-entry.self c.reserve.new.self h.room is made.preserved
           c.in_ok-reserve.ensures.room;
-      kept = λ client room. made.kept client (h.kept client room);
+      preserved = λ client room. made.preserved client (h.preserved client room);
     }

@@ -6,5 +6,5 @@ abbrev pub invariant-loop-entry : goal.invariant-loop-entry
 invariant-loop-entry l = record {
   same : (c : ℕ) → place_of l.self c ≡ place_of l.fn.self c;
   room : HasRoomFor (take l.entry-index l.entries) l.self;
-  kept : KeepsRoom l.fn.self l.self;
+  preserved : KeepsRoom l.fn.self l.self;
 }

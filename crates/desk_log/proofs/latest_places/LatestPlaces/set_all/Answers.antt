@@ -15,5 +15,5 @@ loop-index-preserved c =
       latest =
           has_latest_push (take i entries) _ e (i + 1) old c.set.new.self c.loop-index.invariant.latest is at
           c.set.ensures.place;
-      room = λ k d lt. c.set.ensures.kept _ (c.loop-index.invariant.room k d lt);
+      room = λ k d lt. c.set.ensures.preserved _ (c.loop-index.invariant.room k d lt);
     }

@@ -13,9 +13,9 @@ set_all-requires-clause-room c =
     room_of_latest log c.self.inside.latest_places c.self.invariant.1 in
     let made : HasRoomFor c.args.entries.items c.reserve_all.new.self = search rules in
     let old : HasRoomFor log places =
-    λ k d lt. c.forget_all.ensures.kept (get_or log k d).client
-    (c.reserve_all.ensures.kept (get_or log k d).client (own k d lt)) in
+    λ k d lt. c.forget_all.ensures.preserved (get_or log k d).client
+    (c.reserve_all.ensures.preserved (get_or log k d).client (own k d lt)) in
     let new : HasRoomFor c.args.entries.items places =
-    λ k d lt. c.forget_all.ensures.kept (get_or c.args.entries.items k d).client (made k d lt) in
+    λ k d lt. c.forget_all.ensures.preserved (get_or c.args.entries.items k d).client (made k d lt) in
     rw is (All-append (λ e. HasRoom places e.client) (take c.args.k log) c.args.entries.items
     (All-take (λ e. HasRoom places e.client) c.args.k log old) new)

@@ -2,7 +2,7 @@
 use Rattle.std.proofs.Common.{◌≡◌, ◌≤◌, ◌++◌, take, subst, sym}
 use Rattle.desk_log.specs.Change.{keeps_committed}
 use Rattle.desk_log.specs.SavedValue.{SavedValue}
-use Rattle.desk_log.proofs.JoinedLogs.{kept_is}
+use Rattle.desk_log.proofs.JoinedLogs.{preserved_is}
 use Rattle.desk_log.proofs.saved.Saved.keeps_committed.Goals as goal
 
 -- src/saved.rt:120:5
@@ -16,6 +16,6 @@ returns-clause-value c =
     } in
     subst (λ (s : SavedValue). c.goes_on.result ≡ keeps_committed s (take c.args.base s.log ++ c.args.entries.now))
     c.self.view_is
-    (kept_is s c.args.base c.args.entries.now c.goes_on.result
+    (preserved_is s c.args.base c.args.entries.now c.goes_on.result
     (subst (λ (s : SavedValue). c.args.base ≤ s.commit) (sym c.self.view_is) c.requires)
     c.self.invariant.commit_within c.goes_on.ensures)

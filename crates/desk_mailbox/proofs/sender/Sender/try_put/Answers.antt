@@ -11,23 +11,24 @@ try_send_as-outcome-requires-clause-channel g c = c.args.self.seated
 
 pub invariant_of-sender : goal.invariant_of-sender
 invariant_of-sender g c =
-    let told = c.in-Ok.ensures in record { seated = told.channel.0; sends = rw told.rule c.args.self.sends }
+    let reported = c.in-Ok.ensures in record { seated = reported.channel.0; sends = rw reported.rule c.args.self.sends }
 
 pub returns-in-Ok : goal.returns-in-Ok
 returns-in-Ok g c = record { same = (refl, refl); put = rw c.in-Ok.ensures.rule refl; refused = refl }
 
 pub invariant_of-sender-in-Err-Full : goal.invariant_of-sender-in-Err-Full
 invariant_of-sender-in-Err-Full g c =
-    let told = c.in-Err-Full.ensures in record { seated = told.channel.0; sends = rw told.rule.1 c.args.self.sends }
+    let reported = c.in-Err-Full.ensures in record
+    { seated = reported.channel.0; sends = rw reported.rule.1 c.args.self.sends }
 
 pub returns-in-Err-Full : goal.returns-in-Err-Full
 returns-in-Err-Full g c =
-    let told = c.in-Err-Full.ensures.rule in
+    let reported = c.in-Err-Full.ensures.rule in
     let counted = c.with_one_refused.ensures in record {
       same = counted.same;
       put = (
-        ap (λ s. s.item) (rw c.in-Err-Full.field-0-is at told.0),
-        counted.put ∙ rw told.1 refl,
+        ap (λ s. s.item) (rw c.in-Err-Full.field-0-is at reported.0),
+        counted.put ∙ rw reported.1 refl,
       );
       refused = counted.refused;
     }

@@ -10,7 +10,7 @@ pub start_outcomes-requires-clause-follows : goal.start_outcomes-requires-clause
 start_outcomes-requires-clause-follows c =
     follows_start _ _ c.args.plan.view _ _
     (subst (λ (v : NodeValue). NeverFalls v.saved (saved_by_plan v.saved c.args.plan)) (sym c.self.view_is)
-    c.requires.ready.kept)
+    c.requires.ready.preserved)
     c.self.invariant.2
 
 pub invariant_of-self-in-Ok : goal.invariant_of-self-in-Ok

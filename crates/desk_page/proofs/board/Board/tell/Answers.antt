@@ -6,24 +6,24 @@ use Rattle.desk_page.proofs.board.Board.tell.Goals as goal
 pub invariant_of-drop : goal.invariant_of-drop
 invariant_of-drop g c =
     let self = c.args.self.now in
-    let told = self.told.items in
+    let reported = self.reported.items in
     let next : ℕ × List ℕ = (c.args.line.place, c.args.line.text) in
     record {
-      rises = ap rises c.and-told.ensures
-          ∙ rises-push told next self.rises
-          (below _ _ told self.latest c.args.line.place c.place.result self.last c.place.ensures.latest
+      rises = ap rises c.and-reported.ensures
+          ∙ rises-push reported next self.rises
+          (below _ _ reported self.latest c.args.line.place c.place.result self.last c.place.ensures.latest
           c.if-not-is_above.ensures);
-      last = ap last_of c.and-told.ensures ∙ last_of-push told next;
+      last = ap last_of c.and-reported.ensures ∙ last_of-push reported next;
     }
 
 pub returns-then-not-is_above-clause-next : goal.returns-then-not-is_above-clause-next
 returns-then-not-is_above-clause-next g c =
     let self = c.args.self.now in
-    next_is _ _ self.told.items self.latest c.args.line.place c.place.result false self.last c.place.ensures.latest
+    next_is _ _ self.reported.items self.latest c.args.line.place c.place.result false self.last c.place.ensures.latest
     c.if-not-is_above.ensures
 
 pub returns-clause-next : goal.returns-clause-next
 returns-clause-next g c =
     let self = c.args.self.now in
-    next_is _ _ self.told.items self.latest c.args.line.place c.place.result true self.last c.place.ensures.latest
+    next_is _ _ self.reported.items self.latest c.args.line.place c.place.result true self.last c.place.ensures.latest
     c.if-not-is_above.ensures

@@ -1,5 +1,5 @@
 use Rattle.std.proofs.Common.{sym, ◌∙◌, arith}
-use Rattle.desk_published.proofs.ToldPlaces.{some_request}
+use Rattle.desk_published.proofs.ReportedPlaces.{some_request}
 use Rattle.desk_published.proofs.published.PublishedBoard.has_request.Goals as goal
 
 pub returns : goal.returns

@@ -7,7 +7,7 @@ use Rattle.desk_log.specs.SavedValue.{IsSaved}
 use Rattle.desk_saved.specs.declared.transactions.Numbers.{Numbers}
 use Rattle.desk_saved.specs.Clients.{changed_clients}
 use Rattle.desk_saved.specs.contracts.saved_state.SavedState.{the_view}
-use Rattle.desk_saved.proofs.Changing.{commits_told, crash_told, rows_told, undone_told}
+use Rattle.desk_saved.proofs.Changing.{commits_reported, crash_reported, rows_reported, undone_reported}
 use Rattle.desk_saved.proofs.SaveOutcomes.{stopped_before, saved_before, not_begun, failed, changed}
 use Rattle.desk_saved.proofs.saved_state.SavedState.save_after.Goals as goal
 
@@ -54,14 +54,14 @@ returns g c =
     (λ open_ trees leaves. g.met.S.Store.settled _ trees open_ leaves)
     (λ late. subst (λ h. HasCleanDisk (state g.S.Store h)) same (c.change.ensures.keeps.0 late))
     (c.change.ensures.keeps.1 ∙ ap (λ h. (state g.S.Store h).step_limit) same)
-    (crash_told g.S.Store file c.deref_mut.result.now c.change.new.conn new front same c.log.result.now log
+    (crash_reported g.S.Store file c.deref_mut.result.now c.change.new.conn new front same c.log.result.now log
     c.stored-before.result c.as_slice.result.now numbers.result.view numbers.result.normal numbers.result.commit
     c.stored-before.ensures clients (ap (λ (m : Numbers). m.view) numbers.ensures.value)
     (ap (λ (m : Numbers). m.normal) numbers.ensures.value) (ap (λ (m : Numbers). m.commit) numbers.ensures.value)
     c.change.ensures.crash)
-    (commits_told g.S.Store file c.deref_mut.result.now c.change.new.conn new front same c.log.result.now log
+    (commits_reported g.S.Store file c.deref_mut.result.now c.change.new.conn new front same c.log.result.now log
     c.change.ensures.commits)
-    (undone_told g.S.Store c.deref_mut.result.now file.connection c.change.new.conn c.change.result same
+    (undone_reported g.S.Store c.deref_mut.result.now file.connection c.change.new.conn c.change.result same
     (λ is. grind arith)
     c.change.ensures.undone c.change.ensures.busy)))
 
@@ -90,16 +90,16 @@ returns-in-Ok-true g c =
     (λ open_ trees leaves. g.met.S.Store.settled _ trees open_ leaves)
     (λ late. subst (λ h. HasCleanDisk (state g.S.Store h)) same (c.change.ensures.keeps.0 late))
     (c.change.ensures.keeps.1 ∙ ap (λ h. (state g.S.Store h).step_limit) same)
-    (crash_told g.S.Store file c.deref_mut.result.now c.change.new.conn new front same c.log.result.now log
+    (crash_reported g.S.Store file c.deref_mut.result.now c.change.new.conn new front same c.log.result.now log
     c.stored-before.result c.as_slice.result.now numbers.result.view numbers.result.normal numbers.result.commit
     c.stored-before.ensures clients (ap (λ (m : Numbers). m.view) numbers.ensures.value)
     (ap (λ (m : Numbers). m.normal) numbers.ensures.value) (ap (λ (m : Numbers). m.commit) numbers.ensures.value)
     c.change.ensures.crash)
-    (commits_told g.S.Store file c.deref_mut.result.now c.change.new.conn new front same c.log.result.now log
+    (commits_reported g.S.Store file c.deref_mut.result.now c.change.new.conn new front same c.log.result.now log
     c.change.ensures.commits) tt last
     (rw log at (c.in-Ok-true.ensures.fits c.in-Ok-true.field-0-test))
     (λ open_ trees leaves. g.met.S.Store.settled _ trees open_ leaves)
-    (rows_told g.S.Store file c.deref_mut.result.now c.change.new.conn new front same c.log.result.now log
+    (rows_reported g.S.Store file c.deref_mut.result.now c.change.new.conn new front same c.log.result.now log
     c.stored-before.result c.as_slice.result.now numbers.result.view numbers.result.normal numbers.result.commit
     c.stored-before.ensures clients (ap (λ (m : Numbers). m.view) numbers.ensures.value)
     (ap (λ (m : Numbers). m.normal) numbers.ensures.value) (ap (λ (m : Numbers). m.commit) numbers.ensures.value)

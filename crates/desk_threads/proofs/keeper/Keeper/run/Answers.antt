@@ -6,5 +6,5 @@ pub returns-clause-failed : goal.returns-clause-failed
 returns-clause-failed g c =
     if_err_each c.run_turns.result.1 _ _
     (λ fault. turn_to_last g.O.Out g.S.StateStore g.met.O.Out.takes_none g.met.O.Out.takes_then
-    g.met.S.StateStore.kept_still g.met.S.StateStore.kept_further fault _ _ _ _)
+    g.met.S.StateStore.preserved_still g.met.S.StateStore.preserved_further fault _ _ _ _)
     c.run_turns.ensures.failed

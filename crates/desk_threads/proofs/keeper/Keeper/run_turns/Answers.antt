@@ -11,7 +11,7 @@ loop-init g c = (
   turns_none g.O.Out g.S.StateStore _ _ _,
   λ works. (
     works,
-    filed_still g.S.StateStore _ _ g.met.S.StateStore.kept_still (c.args.self.running works)
+    filed_still g.S.StateStore _ _ g.met.S.StateStore.preserved_still (c.args.self.running works)
         (c.args.self.last works),
   ),
   refl,
@@ -25,7 +25,7 @@ loop-preserved g c = (
   λ works.
       let r = c.loop.invariant.1 works in
       let s = on_ok c.turn-back.result.1 _ _ c.in-Ok-true.is (c.turn-back.ensures.filed r.0) in
-      (s.0, filed_then _ _ _ _ _ _ g.met.S.StateStore.kept_further r.1 s.1),
+      (s.0, filed_then _ _ _ _ _ _ g.met.S.StateStore.preserved_further r.1 s.1),
   c.turn-back.ensures.same ∙ c.loop.invariant.2,
   on_ok c.turn-back.result.1 _ _ c.in-Ok-true.is c.turn-back.ensures.still ∙ c.loop.invariant.3,
 )
@@ -51,12 +51,12 @@ pub returns-in-Ok-false-clause-filed : goal.returns-in-Ok-false-clause-filed
 returns-in-Ok-false-clause-filed g c = λ works.
     let r = c.loop.invariant.1 works in
     let s = on_ok c.turn-back.result.1 _ _ c.in-Ok-false.is (c.turn-back.ensures.filed r.0) in
-    (s.0, filed_then _ _ _ _ _ _ g.met.S.StateStore.kept_further r.1 s.1)
+    (s.0, filed_then _ _ _ _ _ _ g.met.S.StateStore.preserved_further r.1 s.1)
 
 pub returns-in-Err-clause-failed : goal.returns-in-Err-clause-failed
 returns-in-Err-clause-failed g c = (
   taken_by c.loop.keeper.taker,
-  stand c.loop.keeper.kept c.loop.keeper.waiting c.loop.keeper.store (published c.loop.keeper.writer.inner)
+  stand c.loop.keeper.owned c.loop.keeper.waiting c.loop.keeper.store (published c.loop.keeper.writer.inner)
       c.loop.keeper.all_published c.loop.out,
   c.loop.invariant.0,
   if_err c.turn-back.result.1 _ _ c.in-Err.is c.turn-back.ensures.failed,

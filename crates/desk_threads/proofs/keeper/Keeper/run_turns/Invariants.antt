@@ -8,12 +8,12 @@ use Rattle.desk_threads.proofs.keeper.Keeper.run_turns.Given as goal
 abbrev pub invariant-loop : goal.invariant-loop
 invariant-loop g l =
     RanInTurns g.O.Out g.S.StateStore l.fn.most (taken_by l.fn.self.taker)
-    (stand l.fn.self.kept l.fn.self.waiting l.fn.self.store (published l.fn.self.writer.inner)
+    (stand l.fn.self.owned l.fn.self.waiting l.fn.self.store (published l.fn.self.writer.inner)
     l.fn.self.all_published l.fn.out)
     (taken_by l.keeper.taker)
-    (stand l.keeper.kept l.keeper.waiting l.keeper.store (published l.keeper.writer.inner)
+    (stand l.keeper.owned l.keeper.waiting l.keeper.store (published l.keeper.writer.inner)
     l.keeper.all_published l.out)
     × (l.fn.self.stopped ≡ false → (l.keeper.stopped ≡ false)
-    × IsFiled g.S.StateStore l.fn.self.store l.keeper.store l.keeper.kept.node.saved)
+    × IsFiled g.S.StateStore l.fn.self.store l.keeper.store l.keeper.owned.node.saved)
     × IsSameTaker l.fn.self.taker l.keeper.taker
     × (l.keeper.stopped ≡ l.fn.self.stopped)

@@ -1,7 +1,7 @@
 use Rattle.std.proofs.Common.{◌∙◌, ◌∷◌, ◌++◌, option_to_list, ap, sym, subst, refl}
 use Rattle.desk_log.specs.Entries.{IsLogPrefix}
 use Rattle.desk_log.specs.SavedValue.{committed_entries}
-use Rattle.desk_threads.specs.KeptValue.{KeptValue}
+use Rattle.desk_threads.specs.OwnedValue.{OwnedValue}
 use Rattle.desk_published.proofs.PrefixEquations.{front_goes_on, is_prefix}
 use Rattle.desk_mailbox.specs.Ends.{taken_by}
 use Rattle.desk_published.specs.Writer.{published}
@@ -15,29 +15,29 @@ use Rattle.desk_threads.proofs.StoredAnswers.{no_less}
 use Rattle.desk_threads.proofs.TurnEnds.{saved_turn, unsaved_turn, unsaved_items}
 use Rattle.desk_threads.proofs.keeper.Keeper.serve_turn.Goals as goal
 
-pub end_saved-keeper-requires-clause-behind : goal.end_saved-keeper-requires-clause-behind
-end_saved-keeper-requires-clause-behind g c =
-    let new = c.act_all_and_save-turn.result.0.kept.node.saved in
-    front_goes_on c.args.self.writer.noted (committed_entries c.args.self.kept.node.saved)
-    (committed_entries new) c.args.self.behind
-    (begins _ _ (subst (λ (k : KeptValue). IsLogPrefix (committed_entries k.node.saved) (committed_entries new))
-    c.new-turn.ensures.kept c.act_all_and_save-turn.ensures.committed))
+pub end_saved-keeper-requires-clause-noted : goal.end_saved-keeper-requires-clause-noted
+end_saved-keeper-requires-clause-noted g c =
+    let new = c.act_all_and_save-turn.result.0.owned.node.saved in
+    front_goes_on c.args.self.writer.noted (committed_entries c.args.self.owned.node.saved)
+    (committed_entries new) c.args.self.noted
+    (begins _ _ (subst (λ (k : OwnedValue). IsLogPrefix (committed_entries k.node.saved) (committed_entries new))
+    c.new-turn.ensures.owned c.act_all_and_save-turn.ensures.committed))
 
-pub end_unsaved-keeper-requires-clause-behind : goal.end_unsaved-keeper-requires-clause-behind
-end_unsaved-keeper-requires-clause-behind g c =
-    let new = c.act_all_and_save-turn.result.0.kept.node.saved in
-    front_goes_on c.args.self.writer.noted (committed_entries c.args.self.kept.node.saved)
-    (committed_entries new) c.args.self.behind
-    (begins _ _ (subst (λ (k : KeptValue). IsLogPrefix (committed_entries k.node.saved) (committed_entries new))
-    c.new-turn.ensures.kept c.act_all_and_save-turn.ensures.committed))
+pub end_unsaved-keeper-requires-clause-noted : goal.end_unsaved-keeper-requires-clause-noted
+end_unsaved-keeper-requires-clause-noted g c =
+    let new = c.act_all_and_save-turn.result.0.owned.node.saved in
+    front_goes_on c.args.self.writer.noted (committed_entries c.args.self.owned.node.saved)
+    (committed_entries new) c.args.self.noted
+    (begins _ _ (subst (λ (k : OwnedValue). IsLogPrefix (committed_entries k.node.saved) (committed_entries new))
+    c.new-turn.ensures.owned c.act_all_and_save-turn.ensures.committed))
 
 pub end_unsaved-keeper-requires-clause-shown : goal.end_unsaved-keeper-requires-clause-shown
 end_unsaved-keeper-requires-clause-shown g c =
-    let new = c.act_all_and_save-turn.result.0.kept.node.saved in
-    front_goes_on (published c.args.self.writer.inner) (committed_entries c.args.self.kept.node.saved)
+    let new = c.act_all_and_save-turn.result.0.owned.node.saved in
+    front_goes_on (published c.args.self.writer.inner) (committed_entries c.args.self.owned.node.saved)
     (committed_entries new) c.args.self.shown
-    (begins _ _ (subst (λ (k : KeptValue). IsLogPrefix (committed_entries k.node.saved) (committed_entries new))
-    c.new-turn.ensures.kept c.act_all_and_save-turn.ensures.committed))
+    (begins _ _ (subst (λ (k : OwnedValue). IsLogPrefix (committed_entries k.node.saved) (committed_entries new))
+    c.new-turn.ensures.owned c.act_all_and_save-turn.ensures.committed))
 
 pub returns-in-Ok-clause-did : goal.returns-in-Ok-clause-did
 returns-in-Ok-clause-did g c =
@@ -49,21 +49,21 @@ returns-in-Ok-clause-did g c =
       d.0,
       ap taken_by c.end_saved-keeper.ensures.taker ∙ d.2 ∙ ap (λ t. taken_by t ++ d.0) c.new-turn.ensures.taker,
       saved_turn g.O.Out g.S.StateStore c.args.most c.args.item d.0 first.steps.items turn.steps.items
-          (stand c.args.self.kept c.args.self.waiting c.args.self.store (published c.args.self.writer.inner)
+          (stand c.args.self.owned c.args.self.waiting c.args.self.store (published c.args.self.writer.inner)
           c.args.self.all_published c.args.out.now)
-          (stand keeper.kept keeper.waiting keeper.store (published keeper.writer.inner)
+          (stand keeper.owned keeper.waiting keeper.store (published keeper.writer.inner)
           keeper.all_published c.end_saved-keeper.new.out) turn.waiting turn.late d.1 d.5 c.new-turn.ensures.steps
-          (subst (λ (k : KeptValue). DidMore k first.steps.items items keeper.kept turn.steps.items)
-          c.new-turn.ensures.kept (subst (λ (k : KeptValue). DidMore first.kept first.steps.items items k
-          turn.steps.items) (sym c.end_saved-keeper.ensures.kept) d.3))
+          (subst (λ (k : OwnedValue). DidMore k first.steps.items items keeper.owned turn.steps.items)
+          c.new-turn.ensures.owned (subst (λ (k : OwnedValue). DidMore first.owned first.steps.items items k
+          turn.steps.items) (sym c.end_saved-keeper.ensures.owned) d.3))
           (subst (λ w. NotesItems items w turn.waiting turn.late) c.new-turn.ensures.waiting d.4)
-          (subst (λ (k : KeptValue). IsFiled g.S.StateStore c.args.self.store keeper.store k.node.saved)
-          (sym c.end_saved-keeper.ensures.kept) (subst (λ s. IsFiled g.S.StateStore c.args.self.store s
-          turn.kept.node.saved) (sym c.end_saved-keeper.ensures.store)
+          (subst (λ (k : OwnedValue). IsFiled g.S.StateStore c.args.self.store keeper.store k.node.saved)
+          (sym c.end_saved-keeper.ensures.owned) (subst (λ s. IsFiled g.S.StateStore c.args.self.store s
+          turn.owned.node.saved) (sym c.end_saved-keeper.ensures.store)
           (on_ok c.act_all_and_save-turn.result.1 _ _ c.in-Ok.is c.act_all_and_save-turn.ensures.filed)))
           c.end_saved-keeper.ensures.gave c.end_saved-keeper.ensures.grows (is_prefix _ _ keeper.shown)
           (where_either keeper.all_published _ _ (keeper.whole c.end_saved-keeper.ensures.stopped)
-          (keeper.partial c.end_saved-keeper.ensures.stopped)) c.end_saved-keeper.ensures.told,
+          (keeper.partial c.end_saved-keeper.ensures.stopped)) c.end_saved-keeper.ensures.reported,
     )
 
 pub returns-in-Ok-clause-stopped : goal.returns-in-Ok-clause-stopped
@@ -94,13 +94,13 @@ returns-in-Err-clause-failed g c =
       unsaved_turn (published c.args.self.writer.inner) items c.args.self.waiting turn.waiting
           c.end_unsaved-keeper.result.waiting turn.late
           (subst (λ w. NotesItems items w turn.waiting turn.late) c.new-turn.ensures.waiting d.4)
-          c.end_unsaved-keeper.ensures.told,
+          c.end_unsaved-keeper.ensures.reported,
       unsaved_items g.S.StateStore items c.new-turn.result.steps.items turn.steps.items
-          (stand c.args.self.kept c.args.self.waiting c.args.self.store (published c.args.self.writer.inner)
+          (stand c.args.self.owned c.args.self.waiting c.args.self.store (published c.args.self.writer.inner)
           c.args.self.all_published c.args.out.now)
-          (stand keeper.kept keeper.waiting keeper.store (published keeper.writer.inner)
-          keeper.all_published c.args.out.now) c.new-turn.result.kept turn.kept
-          c.act_all_and_save-turn.new.store c.new-turn.ensures.kept c.end_unsaved-keeper.ensures.kept
+          (stand keeper.owned keeper.waiting keeper.store (published keeper.writer.inner)
+          keeper.all_published c.args.out.now) c.new-turn.result.owned turn.owned
+          c.act_all_and_save-turn.new.store c.new-turn.ensures.owned c.end_unsaved-keeper.ensures.owned
           c.end_unsaved-keeper.ensures.store d.3
           (on_err c.act_all_and_save-turn.result.1 _ _ c.in-Err.is c.act_all_and_save-turn.ensures.left),
     )

@@ -1,12 +1,12 @@
 use Rattle.std.proofs.Common.{rules, ◌≡◌, ◌∙◌, ap, sym, subst, refl, [], ◌∷◌, inl, inr, not, is_some}
-use Rattle.desk_threads.specs.KeptValue.{KeptValue}
+use Rattle.desk_threads.specs.OwnedValue.{OwnedValue}
 use Rattle.desk_mailbox.specs.Ends.{taken_by, no_sender_left, IsSameTaker}
 use Rattle.desk_mailbox.specs.declared.item.Item.TheVariants as items
 use Rattle.desk_published.specs.Writer.{published}
 use Rattle.desk_threads.specs.Runs.{stand}
 use Rattle.desk_threads.proofs.KeeperRuns.{filed_same, if_some}
 use Rattle.desk_threads.proofs.KeeperTurns.{turns_stopped, turns_one, turns_end, took_last, refused_last}
-use Rattle.desk_threads.proofs.KeeperTurns.{stand_same, told_same, took_stop}
+use Rattle.desk_threads.proofs.KeeperTurns.{stand_same, reported_same, took_stop}
 use Rattle.desk_threads.proofs.TurnSteps.{if_ok_map, if_ok_each, if_ok_both, if_err_map}
 use Rattle.desk_threads.proofs.keeper.Keeper.turn.Goals as goal
 
@@ -16,23 +16,23 @@ returns-in-None-clause-turns g c = λ _.
     turns_stopped g.O.Out g.S.StateStore _ _ _ _ _ _ (ap taken_by c.refuse-keeper.ensures.taker ∙ taken)
     (ap no_sender_left c.refuse-keeper.ensures.taker ∙ c.take-keeper.ensures.left
     ∙ ap (λ o. not (is_some o)) c.in-None.is) (record {
-      kept = c.refuse-keeper.ensures.kept ∙ c.take-keeper.ensures.kept;
+      owned = c.refuse-keeper.ensures.owned ∙ c.take-keeper.ensures.owned;
       store = c.refuse-keeper.ensures.store ∙ c.take-keeper.ensures.store;
       out = refl;
       published = ap (λ (p : _). published p.inner)
           (c.refuse-keeper.ensures.writer ∙ c.take-keeper.ensures.writer);
       all_published = c.refuse-keeper.ensures.all_published ∙ c.take-keeper.ensures.all_published;
-      told = told_same _ _ (items.Stop ∷ []) _ _ _
+      reported = reported_same _ _ (items.Stop ∷ []) _ _ _
           (ap (λ (p : _). published p.inner) c.take-keeper.ensures.writer) c.take-keeper.ensures.waiting
-          c.refuse-keeper.ensures.told;
+          c.refuse-keeper.ensures.reported;
     })
 
 pub returns-in-None-clause-filed : goal.returns-in-None-clause-filed
 returns-in-None-clause-filed g c = λ works. (
   c.refuse-keeper.ensures.stopped ∙ c.take-keeper.ensures.stopped ∙ works,
-  filed_same g.S.StateStore c.args.self.store _ c.args.self.kept.node.saved _ g.met.S.StateStore.kept_still
+  filed_same g.S.StateStore c.args.self.store _ c.args.self.owned.node.saved _ g.met.S.StateStore.preserved_still
       (c.refuse-keeper.ensures.store ∙ c.take-keeper.ensures.store)
-      (ap (λ (k : KeptValue). k.node.saved) (c.refuse-keeper.ensures.kept ∙ c.take-keeper.ensures.kept))
+      (ap (λ (k : OwnedValue). k.node.saved) (c.refuse-keeper.ensures.owned ∙ c.take-keeper.ensures.owned))
       (c.args.self.running works) (c.args.self.last works),
 )
 
@@ -44,10 +44,10 @@ pub returns-else-keeper-clause-went : goal.returns-else-keeper-clause-went
 returns-else-keeper-clause-went g c =
     if_ok_map c.serve_turn.result.1 _ _
     (λ d more yes. turns_one g.O.Out g.S.StateStore _ _ (taken_by c.take-keeper.result.0.taker) _ c.in-Some.sent _
-    (stand c.take-keeper.result.0.kept c.take-keeper.result.0.waiting c.take-keeper.result.0.store
+    (stand c.take-keeper.result.0.owned c.take-keeper.result.0.waiting c.take-keeper.result.0.store
     (published c.take-keeper.result.0.writer.inner) c.take-keeper.result.0.all_published c.args.out.now) _
     (if_some c.take-keeper.result.1 _ _ _ c.in-Some.is c.take-keeper.ensures.took)
-    (stand_same _ _ _ _ _ _ _ _ _ _ _ c.take-keeper.ensures.kept c.take-keeper.ensures.waiting
+    (stand_same _ _ _ _ _ _ _ _ _ _ _ c.take-keeper.ensures.owned c.take-keeper.ensures.waiting
     c.take-keeper.ensures.store (ap (λ (p : _). published p.inner) c.take-keeper.ensures.writer)
     c.take-keeper.ensures.all_published) d)
     c.serve_turn.ensures.did
@@ -57,10 +57,10 @@ returns-else-keeper-clause-turns g c =
     if_ok_both c.serve_turn.result.1 _ _ _
     (λ d more h stop. turns_end g.O.Out g.S.StateStore _ _ _ _ _ _
     (turns_one g.O.Out g.S.StateStore _ _ (taken_by c.take-keeper.result.0.taker) _ c.in-Some.sent _
-    (stand c.take-keeper.result.0.kept c.take-keeper.result.0.waiting c.take-keeper.result.0.store
+    (stand c.take-keeper.result.0.owned c.take-keeper.result.0.waiting c.take-keeper.result.0.store
     (published c.take-keeper.result.0.writer.inner) c.take-keeper.result.0.all_published c.args.out.now) _
     (if_some c.take-keeper.result.1 _ _ _ c.in-Some.is c.take-keeper.ensures.took)
-    (stand_same _ _ _ _ _ _ _ _ _ _ _ c.take-keeper.ensures.kept c.take-keeper.ensures.waiting
+    (stand_same _ _ _ _ _ _ _ _ _ _ _ c.take-keeper.ensures.owned c.take-keeper.ensures.waiting
     c.take-keeper.ensures.store (ap (λ (p : _). published p.inner) c.take-keeper.ensures.writer)
     c.take-keeper.ensures.all_published) d)
     (took_stop _ (taken_by c.take-keeper.result.0.taker) _ c.in-Some.sent
@@ -83,12 +83,12 @@ pub returns-else-keeper-clause-failed : goal.returns-else-keeper-clause-failed
 returns-else-keeper-clause-failed g c =
     if_err_map c.serve_turn.result.1 _ _ _
     (λ d fault is. took_last g.S.StateStore _ fault _ (taken_by c.take-keeper.result.0.taker) _ c.in-Some.sent _
-    (stand c.take-keeper.result.0.kept c.take-keeper.result.0.waiting c.take-keeper.result.0.store
+    (stand c.take-keeper.result.0.owned c.take-keeper.result.0.waiting c.take-keeper.result.0.store
     (published c.take-keeper.result.0.writer.inner) c.take-keeper.result.0.all_published c.args.out.now)
-    (stand c.serve_turn.result.0.kept c.serve_turn.result.0.waiting c.serve_turn.result.0.store
+    (stand c.serve_turn.result.0.owned c.serve_turn.result.0.waiting c.serve_turn.result.0.store
     (published c.serve_turn.result.0.writer.inner) c.serve_turn.result.0.all_published c.serve_turn.new.out)
     (if_some c.take-keeper.result.1 _ _ _ c.in-Some.is c.take-keeper.ensures.took)
-    (stand_same _ _ _ _ _ _ _ _ _ _ _ c.take-keeper.ensures.kept c.take-keeper.ensures.waiting
+    (stand_same _ _ _ _ _ _ _ _ _ _ _ c.take-keeper.ensures.owned c.take-keeper.ensures.waiting
     c.take-keeper.ensures.store (ap (λ (p : _). published p.inner) c.take-keeper.ensures.writer)
     c.take-keeper.ensures.all_published)
     d is)
@@ -99,13 +99,13 @@ returns-then-keeper-clause-failed g c =
     let keeper = c.refuse-keeper-then-keeper.result in
     let is = c.refuse-keeper-then-keeper.ensures in
     refused_last g.S.StateStore c.args.most _ _ c.in-Some.sent
-    (stand c.args.self.kept c.args.self.waiting c.args.self.store (published c.args.self.writer.inner)
+    (stand c.args.self.owned c.args.self.waiting c.args.self.store (published c.args.self.writer.inner)
     c.args.self.all_published c.args.out.now)
-    (stand keeper.kept keeper.waiting keeper.store (published keeper.writer.inner) keeper.all_published
+    (stand keeper.owned keeper.waiting keeper.store (published keeper.writer.inner) keeper.all_published
     c.args.out.now)
     c.requires.positive
     (ap taken_by is.taker ∙ if_some c.take-keeper.result.1 _ _ _ c.in-Some.is c.take-keeper.ensures.took)
-    (is.kept ∙ c.take-keeper.ensures.kept) (is.store ∙ c.take-keeper.ensures.store) refl
+    (is.owned ∙ c.take-keeper.ensures.owned) (is.store ∙ c.take-keeper.ensures.store) refl
     (ap (λ (p : _). published p.inner) (is.writer ∙ c.take-keeper.ensures.writer))
-    (told_same _ _ (c.in-Some.sent.item ∷ []) _ _ _
-    (ap (λ (p : _). published p.inner) c.take-keeper.ensures.writer) c.take-keeper.ensures.waiting is.told)
+    (reported_same _ _ (c.in-Some.sent.item ∷ []) _ _ _
+    (ap (λ (p : _). published p.inner) c.take-keeper.ensures.writer) c.take-keeper.ensures.waiting is.reported)

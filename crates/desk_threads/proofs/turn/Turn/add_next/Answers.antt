@@ -10,7 +10,7 @@ pub returns-then-self-clause-did : goal.returns-then-self-clause-did
 returns-then-self-clause-did g c = (
   [],
   omega arith,
-  took_none (taken_by c.args.self.taker) c.args.self.kept c.args.self.steps.items,
+  took_none (taken_by c.args.self.taker) c.args.self.owned c.args.self.steps.items,
   notes_more_none c.args.self.waiting c.args.self.late,
   adds_none c.args.self.is_over,
 )
@@ -24,7 +24,7 @@ returns-in-None-clause-did g c = (
   omega arith,
   (
     rw c.in-None.is at c.try_take-taker.ensures.took ∙ sym (append-nil (taken_by c.args.self.taker)),
-    did_none c.args.self.kept c.args.self.steps.items,
+    did_none c.args.self.owned c.args.self.steps.items,
   ),
   notes_more_none c.args.self.waiting c.args.self.late,
   adds_none c.args.self.is_over,

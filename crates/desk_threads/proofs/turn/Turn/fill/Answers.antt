@@ -11,7 +11,7 @@ loop-added-init g c = (
   (
     [],
     omega arith,
-    took_none (taken_by c.args.self.taker) c.args.self.kept c.args.self.steps.items,
+    took_none (taken_by c.args.self.taker) c.args.self.owned c.args.self.steps.items,
     notes_more_none c.args.self.waiting c.args.self.late,
     adds_none c.args.self.is_over,
   ),

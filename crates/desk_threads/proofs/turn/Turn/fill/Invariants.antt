@@ -7,9 +7,9 @@ use Rattle.desk_threads.proofs.turn.Turn.fill.Given as goal
 
 abbrev pub invariant-loop-added : goal.invariant-loop-added
 invariant-loop-added g l =
-    ((sent : List _) × (length sent < l.added) × TookMore (taken_by l.fn.self.taker) l.fn.self.kept
-    l.fn.self.steps.items sent (taken_by l.turn.taker) l.turn.kept l.turn.steps.items
+    ((sent : List _) × (length sent < l.added) × TookMore (taken_by l.fn.self.taker) l.fn.self.owned
+    l.fn.self.steps.items sent (taken_by l.turn.taker) l.turn.owned l.turn.steps.items
     × NotesMore sent l.fn.self.waiting l.fn.self.late l.turn.waiting l.turn.late
     × AddsToTurn sent l.fn.self.is_over l.turn.is_over)
     × IsSameTaker l.fn.self.taker l.turn.taker
-    × IsLogPrefix (committed_entries l.fn.self.kept.node.saved) (committed_entries l.turn.kept.node.saved)
+    × IsLogPrefix (committed_entries l.fn.self.owned.node.saved) (committed_entries l.turn.owned.node.saved)

@@ -4,7 +4,13 @@ use Rattle.desk_index.specs.Slots.{live}
 use Rattle.desk_units.specs.declared.unit.Unit.{Unit}
 use Rattle.desk_units.specs.Checks.{has_name}
 use Rattle.desk_units.specs.NameTable.{IsNameTable}
-use Rattle.desk_units.proofs.NameTables.{name-within, name-removed, name-kept, IsNameTable-removed, IsNameTable-absent}
+use Rattle.desk_units.proofs.NameTables.{
+  name-within,
+  name-removed,
+  name-preserved,
+  IsNameTable-removed,
+  IsNameTable-absent,
+}
 use Rattle.desk_units.proofs.on_duty.OnDuty.remove.Goals as goal
 
 pub clear_slot-requires : goal.clear_slot-requires
@@ -41,6 +47,6 @@ returns-in-Some c =
 
 pub returns-in_default : goal.returns-in_default
 returns-in_default c =
-    name-kept (λ u. u.name) c.self.inside.slots.items c.self.inside.names.entries c.args.name.now
+    name-preserved (λ u. u.name) c.self.inside.slots.items c.self.inside.names.entries c.args.name.now
     c.self.invariant (sym c.take_name.ensures.slot ∙ c.in_default.is)
     ∙ ap (λ (us : List Unit). filter (λ u. not (has_name c.args.name.now u)) us) c.self.view_is

@@ -1,6 +1,6 @@
 use Rattle.std.proofs.Common.{sym, ◌∙◌, refl, arith}
 use Rattle.desk_page.proofs.Marks.{found, more, ended}
-use Rattle.desk_page.proofs.told.after_mark.Goals as goal
+use Rattle.desk_page.proofs.reported.after_mark.Goals as goal
 
 pub loop-i-init : goal.loop-i-init
 loop-i-init c = refl

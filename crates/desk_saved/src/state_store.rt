@@ -6,7 +6,7 @@ use desk_types::{Refusal, WantOfMemory};
 use sqlite::Alter;
 
 impl<S: Alter> StateStore for SavedState<S> {
-    ghost use Rattle.desk_saved.specs.KeptFile.{IsSameFile, HasFailed, file_still, file_further};
+    ghost use Rattle.desk_saved.specs.SameFile.{IsSameFile, HasFailed, file_still, file_further};
 
     ghost last = { λ file. file.last };
 
@@ -27,7 +27,7 @@ impl<S: Alter> StateStore for SavedState<S> {
         self.save_after(saved, known)
     }
 
-    ghost kept_still = { file_still _ };
+    ghost preserved_still = { file_still _ };
 
-    ghost kept_further = { file_further _ };
+    ghost preserved_further = { file_further _ };
 }

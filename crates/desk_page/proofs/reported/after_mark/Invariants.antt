@@ -1,6 +1,6 @@
 use Rattle.std.proofs.Common.{◌≡◌, drop}
-use Rattle.desk_page.specs.Told.{after_mark}
-use Rattle.desk_page.proofs.told.after_mark.Given as goal
+use Rattle.desk_page.specs.Reported.{after_mark}
+use Rattle.desk_page.proofs.reported.after_mark.Given as goal
 
 -- the mark stands nowhere before i
 abbrev pub invariant-loop-i : goal.invariant-loop-i

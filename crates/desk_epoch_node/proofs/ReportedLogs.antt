@@ -34,7 +34,9 @@ telling_serves e log saved next long f =
     let enough : commit ≤ length log = omega (arith, all, length-prefix (take commit own) log f) in
     let same : take commit own ≡ take commit log =
     sym (take-prefix (take commit own) log f) ∙ ap (λ k. take k log) all in
-    let kept : keeps_committed e.node.saved (whole_log e count rest) ≡ true =
+    let preserved : keeps_committed e.node.saved (whole_log e count rest) ≡ true =
     subst (λ es. keeps_committed e.node.saved es ≡ true) (sym whole)
-    ((keeps_committed-Decides e.node.saved log).1 (enough, same)) in
-    (and_from _ _ (and_from _ _ (and_from _ _ next (le-leb count count (omega arith))) (eq-eqb _ _ sum)) kept, whole)
+    ((keeps_committed-Decides e.node.saved log).1 (enough, same)) in (
+      and_from _ _ (and_from _ _ (and_from _ _ next (le-leb count count (omega arith))) (eq-eqb _ _ sum)) preserved,
+      whole,
+    )

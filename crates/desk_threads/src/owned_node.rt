@@ -7,7 +7,7 @@ ghost use Rattle.desk_log.specs.Quorum.{primary};
 ghost use Rattle.desk_log.specs.SavedValue.{committed_entries};
 ghost use Rattle.desk_mailbox.specs.declared.item.Item.TheVariants as items;
 ghost use Rattle.desk_node.specs.NodeValue.{DoesStep, IsSameNode};
-ghost use Rattle.desk_threads.specs.KeptValue.{with_one_refused, DoesItem};
+ghost use Rattle.desk_threads.specs.OwnedValue.{with_one_refused, DoesItem};
 ghost use Rattle.desk_threads.specs.ItemAnswers.{Answers};
 ghost use Rattle.desk_threads.specs.Keeper.{tick_event, ticks_after_tick, suspects};
 
@@ -21,16 +21,16 @@ use std::marker::Model;
 
 /// A node, the ticks since it last heard of its primary or suspected it, and how many items were refused for want of
 /// memory. The node stands in a block of memory of its own, so that what holds it moves as a few words.
-pub struct KeptNode {
+pub struct OwnedNode {
     node: Box<Node>,
     ticks: u64,
     refused: u64,
 }
 
 // It is written out, so that a caller does not prove again how each part is dropped.
-impl Drop for KeptNode {
+impl Drop for OwnedNode {
     fn drop(self) {
-        let KeptNode {
+        let OwnedNode {
             node: _,
             ticks: _,
             refused: _,
@@ -38,12 +38,12 @@ impl Drop for KeptNode {
     }
 }
 
-impl Model for KeptNode {
+impl Model for OwnedNode {
     ghost use Rattle.std.specs.Prelude.{◌≤◌};
     ghost use Rattle.desk_threads.specs.declared.limits.TheConstants.{SUSPECT_TICKS};
-    ghost use Rattle.desk_threads.specs.KeptValue.{KeptValue};
+    ghost use Rattle.desk_threads.specs.OwnedValue.{OwnedValue};
 
-    ghost Value = { KeptValue };
+    ghost Value = { OwnedValue };
 
     ghost view = { λ k. record { node = k.node.value; ticks = k.ticks; refused = k.refused } };
 
@@ -89,13 +89,13 @@ fn ticks_after_packet(from: u8, member: GroupNode, view: u64, ticks: u64) -> u64
     }
 }
 
-impl KeptNode {
+impl OwnedNode {
     /// A node at its start. Err where there is no memory for its block.
-    pub fn new(alloc: Global, node: Node) -> Result<KeptNode, WantOfMemory>
-        ensures { IfOk result (λ kept. kept ≡ record { node = node; ticks = 0; refused = 0 }) }
+    pub fn new(alloc: Global, node: Node) -> Result<OwnedNode, WantOfMemory>
+        ensures { IfOk result (λ owned. owned ≡ record { node = node; ticks = 0; refused = 0 }) }
     {
         let node = Box::new(alloc, node)?;
-        Ok(KeptNode {
+        Ok(OwnedNode {
             node,
             ticks: 0,
             refused: 0,

@@ -4,8 +4,8 @@ use Rattle.sqlite_trees.specs.declared.store.Store.{Ghosts}
 use Rattle.desk_log.specs.SavedValue.{SavedValue}
 use Rattle.desk_saved.specs.Saving.{KeepsFile, HasSaved}
 use Rattle.desk_saved.specs.Store.{StoreValue}
-pub use Rattle.desk_saved.specs.KeptFile.{kept_still, kept_further}
+pub use Rattle.desk_saved.specs.SameFile.{preserved_still, preserved_further}
 
-pub kept_by_save : {S T : Type 0} (g : Ghosts S) (old new : StoreValue S) (given : SavedValue) (x : T) →
+pub preserved_by_save : {S T : Type 0} (g : Ghosts S) (old new : StoreValue S) (given : SavedValue) (x : T) →
     HasSaved g old new given (Ok x) → KeepsFile g old new
-kept_by_save g old new given x h d holds = ((h.saved h.last.2 d holds).2, h.others h.last.2 d holds)
+preserved_by_save g old new given x h d holds = ((h.saved h.last.2 d holds).2, h.others h.last.2 d holds)

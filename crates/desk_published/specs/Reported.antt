@@ -3,8 +3,8 @@ use Rattle.std.specs.Prelude.{ℕ, ◌==◌, ◌&&◌, Bool, true, false, List, 
 use Rattle.std.specs.List.{list_any}
 use Rattle.desk_types.specs.declared.command.Entry.{Entry}
 use Rattle.desk_log.specs.Entries.{entry_at}
-use Rattle.desk_published.specs.declared.told.ToldWord.{ToldWord}
-use Rattle.desk_published.specs.declared.told.ToldWord.TheVariants as words
+use Rattle.desk_published.specs.declared.reported.ReportedWord.{ReportedWord}
+use Rattle.desk_published.specs.declared.reported.ReportedWord.TheVariants as words
 
 -- the entry is the request of this client and number
 abbrev pub is_request : ℕ → ℕ → Entry → Bool
@@ -21,12 +21,12 @@ is_request_at list client number place = is_some_request client number (entry_at
 
 -- Where the word is that the request is published, the list has at least so many entries, and the request is one of
 -- the first so many.
-abbrev pub stands : List Entry → ℕ → ℕ → ToldWord → Bool
+abbrev pub stands : List Entry → ℕ → ℕ → ReportedWord → Bool
 stands list client number (words.Published count) =
     nat_le count (length list) && list_any (is_request client number) (take count list)
 stands list client number (words.Refused refusal) = true
 
 -- the statement, where the word is that a request is published
-abbrev pub IfPublished : ToldWord → Type 0 → Type 0
+abbrev pub IfPublished : ReportedWord → Type 0 → Type 0
 IfPublished (words.Published count) P = P
 IfPublished (words.Refused refusal) P = Unit {0}

@@ -8,10 +8,10 @@ use Rattle.std.proofs.lemmas.Option.{none-some}
 use Rattle.std.proofs.lemmas.Bool.Decides.{nat_tests}
 use Rattle.desk_types.specs.declared.command.Entry.{Entry}
 use Rattle.desk_log.specs.Entries.{entry_at}
-use Rattle.desk_published.specs.declared.told.ToldWord.TheVariants as words
+use Rattle.desk_published.specs.declared.reported.ReportedWord.TheVariants as words
 use Rattle.desk_published.specs.Requests.{request_id, is_id_of}
 use Rattle.desk_published.specs.declared.published.RequestId.{RequestId}
-use Rattle.desk_published.specs.Told.{is_request, is_some_request, is_request_at, stands}
+use Rattle.desk_published.specs.Reported.{is_request, is_some_request, is_request_at, stands}
 
 or_true : (b : Bool) → (b || true) ≡ true
 or_true true = refl
@@ -65,10 +65,10 @@ at_place list client number zero is = absurd (true≢false (sym is))
 at_place list client number (suc k) is = at_entry client number list k (slice_get list k) refl is
 
 -- an entry that is published stands among the first so many, which are all
-pub told_stands : (list : List Entry) (client number place count : ℕ) →
+pub reported_stands : (list : List Entry) (client number place count : ℕ) →
     is_request_at list client number place ≡ true → count ≡ length list →
     stands list client number (words.Published count) ≡ true
-told_stands list client number place count is all =
+reported_stands list client number place count is all =
     let there : list_any (is_request client number) (take count list) ≡ true =
     rw (all, take-length list) (at_place list client number place is) in
     let within : nat_le count (length list) ≡ true = grind (arith, nat_tests, all) in

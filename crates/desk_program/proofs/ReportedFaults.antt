@@ -22,26 +22,26 @@ use Rattle.desk_program.specs.Faults.{TellsFault, printed_world_line}
 use Rattle.desk_output.specs.Telling.{TellsLine}
 
 -- the fault that ended a run, where one did, is told
-abbrev pub Told : (Refusal → Type 0) → Option (List ℕ) → Option (List ℕ) → RunEnd → Type 0
-Told P a b end = IfSome (fault_in end) (TellsFault P a b)
+abbrev pub Reported : (Refusal → Type 0) → Option (List ℕ) → Option (List ℕ) → RunEnd → Type 0
+Reported P a b end = IfSome (fault_in end) (TellsFault P a b)
 
 -- a fault that is given is told
-pub told_fault : (P : Refusal → Type 0) (a b : Option (List ℕ)) (end : RunEnd) (fault : Refusal) →
-    end ≡ ends.Failed fault → IsStreamFault fault → P fault → TellsLine a b fault → Told P a b end
-told_fault P a b end fault is stream ends printed = subst (Told P a b) (sym is) (stream, ends, printed)
+pub reported_fault : (P : Refusal → Type 0) (a b : Option (List ℕ)) (end : RunEnd) (fault : Refusal) →
+    end ≡ ends.Failed fault → IsStreamFault fault → P fault → TellsLine a b fault → Reported P a b end
+reported_fault P a b end fault is stream ends printed = subst (Reported P a b) (sym is) (stream, ends, printed)
 
 -- the fault that ended a run of a group of nodes is told
-pub told_world_fault : (asked : WorldOptions) (input rest old new a b : Option (List ℕ)) (end : RunEnd)
+pub reported_world_fault : (asked : WorldOptions) (input rest old new a b : Option (List ℕ)) (end : RunEnd)
     (fault : WorldFault) → end ≡ world_end fault → IsWorldFault fault →
     (fault ≢ faults.Refused refusals.WriteFault → Keeps old new) →
     (fault ≡ faults.Refused refusals.WriteFault → IsAtEnd rest) →
     (fault ≡ faults.Refused refusals.WriteFault →
     IfSome input (λ i. AppendsWorldPrefix old new asked.domain asked.nodes i)) →
-    AppendsPrefix a b (printed_world_line fault) → Told (IsAskedFault (World asked) input rest old new) a b end
-told_world_fault asked input rest old new a b end (faults.NoEvent line) is fault whole read part printed =
-    subst (Told (IsAskedFault (World asked) input rest old new) a b) (sym is) tt
-told_world_fault asked input rest old new a b end (faults.Refused r) is fault whole read part printed =
-    told_fault (IsAskedFault (World asked) input rest old new) a b end r is fault
+    AppendsPrefix a b (printed_world_line fault) → Reported (IsAskedFault (World asked) input rest old new) a b end
+reported_world_fault asked input rest old new a b end (faults.NoEvent line) is fault whole read part printed =
+    subst (Reported (IsAskedFault (World asked) input rest old new) a b) (sym is) tt
+reported_world_fault asked input rest old new a b end (faults.Refused r) is fault whole read part printed =
+    reported_fault (IsAskedFault (World asked) input rest old new) a b end r is fault
     (record {
       whole = λ other. whole (λ same. other cc);
       read = λ is. read (ap faults.Refused is);
@@ -50,19 +50,19 @@ told_world_fault asked input rest old new a b end (faults.Refused r) is fault wh
     printed
 
 -- want of memory for options is told
-pub told_options_fault : (words : List (List ℕ)) (input rest old new a b : Option (List ℕ)) (end : RunEnd)
+pub reported_options_fault : (words : List (List ℕ)) (input rest old new a b : Option (List ℕ)) (end : RunEnd)
     (fault : OptionsFault) → end ≡ options_end fault → Keeps input rest → Keeps old new →
-    AppendsPrefix a b (printed_text fault) → Told (IsWordsFault words input rest old new) a b end
-told_options_fault words input rest old new a b end options.WantOfMemory is unread unwritten printed =
-    told_fault (IsWordsFault words input rest old new) a b end refusals.WantOfMemory is (inl refl)
+    AppendsPrefix a b (printed_text fault) → Reported (IsWordsFault words input rest old new) a b end
+reported_options_fault words input rest old new a b end options.WantOfMemory is unread unwritten printed =
+    reported_fault (IsWordsFault words input rest old new) a b end refusals.WantOfMemory is (inl refl)
     (inl (refl, unread, unwritten)) printed
-told_options_fault words input rest old new a b end (options.Refused text) is unread unwritten printed =
-    subst (Told (IsWordsFault words input rest old new) a b) (sym is) tt
+reported_options_fault words input rest old new a b end (options.Refused text) is unread unwritten printed =
+    subst (Reported (IsWordsFault words input rest old new) a b) (sym is) tt
 
 -- how a run can have ended may be told in other words
-pub told_as : (P Q : Refusal → Type 0) (a b : Option (List ℕ)) (end : RunEnd) → ((r : Refusal) → P r → Q r) →
-    Told P a b end → Told Q a b end
-told_as P Q a b end f t = of (fault_in end) t
+pub reported_as : (P Q : Refusal → Type 0) (a b : Option (List ℕ)) (end : RunEnd) → ((r : Refusal) → P r → Q r) →
+    Reported P a b end → Reported Q a b end
+reported_as P Q a b end f t = of (fault_in end) t
   where
     of : (o : Option Refusal) → IfSome o (TellsFault P a b) → IfSome o (TellsFault Q a b)
     of None t = t

@@ -14,10 +14,10 @@ use Rattle.desk_log.proofs.Rising.{later_is_greater}
 use Rattle.desk_board.specs.Execute.{execute, row_for, request_at, row_of}
 use Rattle.desk_board.specs.Log.{board_of, board_before}
 use Rattle.desk_board.proofs.LogRows.{rows_are_latest}
-use Rattle.desk_published.specs.declared.told.ToldWord.{ToldWord}
-use Rattle.desk_published.specs.declared.told.ToldWord.TheVariants as words
-use Rattle.desk_published.specs.Told.{is_request, stands, IfPublished}
-use Rattle.desk_published.specs.Laws.{HasRow, ToldHasRow}
+use Rattle.desk_published.specs.declared.reported.ReportedWord.{ReportedWord}
+use Rattle.desk_published.specs.declared.reported.ReportedWord.TheVariants as words
+use Rattle.desk_published.specs.Reported.{is_request, stands, IfPublished}
+use Rattle.desk_published.specs.Laws.{HasRow, ReportedHasRow}
 
 and_left : (a b : Bool) → (a && b) ≡ true → a ≡ true
 and_left true b h = refl
@@ -73,9 +73,9 @@ row_at_place domain pass client number j e at mine is (Some p) last =
       ),
     )
 
-pub told_has_row : ToldHasRow
-told_has_row domain front pass client number count told pre =
-    let r = found (is_request client number) count front (and_right _ _ told) in
+pub reported_has_row : ReportedHasRow
+reported_has_row domain front pass client number count reported pre =
+    let r = found (is_request client number) count front (and_right _ _ reported) in
     let e : Entry = r.1 in
     let both : (e.client == client) && (e.number == number) ≡ true = r.3 in
     let at : entry_at pass (suc r.0) ≡ Some e =
@@ -84,8 +84,9 @@ told_has_row domain front pass client number count told pre =
     (eqb-true e.number number (and_right _ _ both)) (latest client pass) refl
 
 -- so of what a word says
-pub learnt_row : (domain : List ℕ) (told pass : List Entry) (client number : ℕ) (word : ToldWord) →
-    stands told client number word ≡ true → IsPrefix told pass → IfPublished word (HasRow domain pass client number)
-learnt_row domain told pass client number (words.Published count) s p =
-    told_has_row domain told pass client number count s p
-learnt_row domain told pass client number (words.Refused refusal) s p = tt
+pub learnt_row : (domain : List ℕ) (reported pass : List Entry) (client number : ℕ) (word : ReportedWord) →
+    stands reported client number word ≡ true → IsPrefix reported pass →
+    IfPublished word (HasRow domain pass client number)
+learnt_row domain reported pass client number (words.Published count) s p =
+    reported_has_row domain reported pass client number count s p
+learnt_row domain reported pass client number (words.Refused refusal) s p = tt

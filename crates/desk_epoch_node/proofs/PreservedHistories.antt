@@ -14,15 +14,15 @@ use Rattle.desk_node.specs.declared.event.Event.{Event}
 use Rattle.desk_epoch_node.specs.declared.deed.Deed.TheVariants.{Ignore, Own, Answer, Refuse, Keep, Ask, Tell, Take}
 use Rattle.desk_epoch_node.specs.declared.step.EpochStep.{EpochStep}
 use Rattle.desk_epoch_node.specs.declared.step.EpochStep.TheVariants as steps
-use Rattle.desk_epoch_node.specs.Does.{BeginsBehind, IsBegun, IsOwn, IsTaken, is_rest, next_node}
+use Rattle.desk_epoch_node.specs.Does.{BeginsAfter, IsBegun, IsOwn, IsTaken, is_rest, next_node}
 use Rattle.desk_epoch_node.specs.Does.{next_view, whole_log}
 use Rattle.desk_epoch_node.specs.EpochValue.{EpochValue, committed_cut, has_next}
 use Rattle.desk_epoch_node.specs.Laws.{BeginningsKeep, KeepsHistory, StepsKeep}
 use Rattle.desk_epoch_node.specs.PastRows.{PastValue, StandFor}
 
-prefix_behind : (past xs ys : List Entry) → IsLogPrefix xs ys → IsLogPrefix (past ++ xs) (past ++ ys)
-prefix_behind [] xs ys f = f
-prefix_behind (e ∷ es) xs ys f = (refl, prefix_behind es xs ys f)
+prefix_after : (past xs ys : List Entry) → IsLogPrefix xs ys → IsLogPrefix (past ++ xs) (past ++ ys)
+prefix_after [] xs ys f = f
+prefix_after (e ∷ es) xs ys f = (refl, prefix_after es xs ys f)
 
 -- a first node has committed nothing
 none_committed : (k view : ℕ) → take k (committed_entries (in_view view initial_saved)) ≡ []
@@ -35,13 +35,13 @@ begun_cut old new is =
 
 -- The node begins after a log that begins with what it has committed of its epoch.
 begun_keeps : (past log : List Entry) (old new : EpochValue) (packets : List (ℕ × Message)) →
-    IsLogPrefix (committed_cut old) log → BeginsBehind past log old new packets → KeepsHistory past old new
+    IsLogPrefix (committed_cut old) log → BeginsAfter past log old new packets → KeepsHistory past old new
 begun_keeps past log old new packets f b = (
   past ++ log,
   b.past_is,
   subst (λ own. IsLogPrefix (past ++ committed_cut old) ((past ++ log) ++ own)) (sym (begun_cut old new b.node_is))
       (subst (λ all. IsLogPrefix (past ++ committed_cut old) all) (sym (append-nil (past ++ log)))
-      (prefix_behind past (committed_cut old) log f)),
+      (prefix_after past (committed_cut old) log f)),
 )
 
 pub beginnings_keep : BeginningsKeep
@@ -60,28 +60,28 @@ own_keeps past event old new (steps.Own step) s d = (
   subst (λ (p : PastValue). StandFor past p) (sym d.past_is) s,
   subst (λ most. IsLogPrefix (past ++ committed_cut old) (past ++ take most (committed_entries new.node.saved)))
       (sym d.most_is)
-      (prefix_behind past (committed_cut old) (take old.most (committed_entries new.node.saved))
+      (prefix_after past (committed_cut old) (take old.most (committed_entries new.node.saved))
       (take_take-prefix old.most old.most (committed_entries old.node.saved) (committed_entries new.node.saved)
       (omega arith) d.committed)),
 )
 own_keeps past event old new steps.Nothing s d = absurd d
 own_keeps past event old new (steps.Known client number place) s d = absurd d
 own_keeps past event old new (steps.Refused client number refusal) s d = absurd d
-own_keeps past event old new (steps.Kept entry) s d = absurd d
+own_keeps past event old new (steps.Deferred entry) s d = absurd d
 own_keeps past event old new (steps.Ask to packet) s d = absurd d
 own_keeps past event old new (steps.Tell to epoch base) s d = absurd d
 own_keeps past event old new (steps.Began log packets) s d = absurd d
 
-told_keeps : (past whole : List Entry) (old new : EpochValue) (step : EpochStep) →
+reported_keeps : (past whole : List Entry) (old new : EpochValue) (step : EpochStep) →
     IsLogPrefix (committed_cut old) whole → IsBegun past whole old new step → KeepsHistory past old new
-told_keeps past whole old new (steps.Began log packets) f d = begun_keeps past whole old new packets.items f d.1
-told_keeps past whole old new steps.Nothing f d = absurd d
-told_keeps past whole old new (steps.Known client number place) f d = absurd d
-told_keeps past whole old new (steps.Refused client number refusal) f d = absurd d
-told_keeps past whole old new (steps.Kept entry) f d = absurd d
-told_keeps past whole old new (steps.Ask to packet) f d = absurd d
-told_keeps past whole old new (steps.Tell to epoch base) f d = absurd d
-told_keeps past whole old new (steps.Own step) f d = absurd d
+reported_keeps past whole old new (steps.Began log packets) f d = begun_keeps past whole old new packets.items f d.1
+reported_keeps past whole old new steps.Nothing f d = absurd d
+reported_keeps past whole old new (steps.Known client number place) f d = absurd d
+reported_keeps past whole old new (steps.Refused client number refusal) f d = absurd d
+reported_keeps past whole old new (steps.Deferred entry) f d = absurd d
+reported_keeps past whole old new (steps.Ask to packet) f d = absurd d
+reported_keeps past whole old new (steps.Tell to epoch base) f d = absurd d
+reported_keeps past whole old new (steps.Own step) f d = absurd d
 
 -- what the node has committed begins the log that it takes
 rest_keeps : (old : EpochValue) (base : ℕ) (entries : List Entry) → is_rest old base entries ≡ true →
@@ -92,8 +92,8 @@ rest_keeps old base entries h =
     and_parts
     (has_next old && leb base (length (committed_cut old)) && eqb (base + length entries) old.most)
     (keeps_committed old.node.saved whole) h in
-    let kept = (keeps_committed-Decides old.node.saved whole).0 p.1 in
-    subst (λ own. IsLogPrefix (take old.most own) whole) (sym kept.1)
+    let preserved = (keeps_committed-Decides old.node.saved whole).0 p.1 in
+    subst (λ own. IsLogPrefix (take old.most own) whole) (sym preserved.1)
     (prefix_trans (take old.most (take old.node.saved.commit whole)) (take old.node.saved.commit whole) whole
     (prefix_take old.most (take old.node.saved.commit whole)) (prefix_take old.node.saved.commit whole))
 
@@ -101,7 +101,7 @@ taken_keeps : (past : List Entry) (base : ℕ) (entries : List Entry) (old new :
     (rest : Bool) → is_rest old base entries ≡ rest → StandFor past old.past →
     IsTaken rest past (whole_log old base entries) old new step → KeepsHistory past old new
 taken_keeps past base entries old new step true is s d =
-    told_keeps past (whole_log old base entries) old new step (rest_keeps old base entries is) d
+    reported_keeps past (whole_log old base entries) old new step (rest_keeps old base entries is) d
 taken_keeps past base entries old new step false is s d = same_keeps past old new s d.1
 
 pub steps_keep : StepsKeep

@@ -1,7 +1,7 @@
 //! What a reply line tells of its place.
 
 ghost use Rattle.std.specs.Prelude.{◌≡◌, option_map};
-ghost use Rattle.desk_page.specs.Told.{after_mark, place_in_reply};
+ghost use Rattle.desk_page.specs.Reported.{after_mark, place_in_reply};
 
 use desk_follow::number_before;
 
@@ -18,7 +18,7 @@ pub(crate) fn after_mark<'a>(text: &'a [u8], mark: &[u8]) -> Option<&'a [u8]>
 }
 
 /// The place that a reply line tells after a mark.
-#[tactic(auto, unfolding(crate::specs::Told::place_in_reply))]
+#[tactic(auto, unfolding(crate::specs::Reported::place_in_reply))]
 pub(crate) fn place_in_reply(reply: &[u8], mark: &[u8]) -> Option<u64>
     ensures { result ≡ place_in_reply mark.now reply.now }
 {

@@ -54,13 +54,13 @@ pub others_then : (d : Layout) (a b c : State) → KeepsOthers d a.now.trees b.n
 others_then d a b c p q = rows_then d a.now.trees b.now.trees c.now.trees d.schema.tables p q
 
 -- so do the rows of the state that was saved last
-pub kept_still : {S : Type 0} (g : Ghosts S) (file : StoreValue S) → KeepsFile g file file
-kept_still g file d holds = (holds, λ _. others_same d (trees_of g file.connection))
+pub preserved_still : {S : Type 0} (g : Ghosts S) (file : StoreValue S) → KeepsFile g file file
+preserved_still g file d holds = (holds, λ _. others_same d (trees_of g file.connection))
 
-pub kept_further : {S : Type 0} (g : Ghosts S) (old mid new : StoreValue S) →
+pub preserved_further : {S : Type 0} (g : Ghosts S) (old mid new : StoreValue S) →
     (HasCleanDisk (state g new.connection) → HasCleanDisk (state g mid.connection)) → KeepsFile g old mid →
     KeepsFile g mid new → KeepsFile g old new
-kept_further g old mid new clean h k d holds =
+preserved_further g old mid new clean h k d holds =
     let first = h d holds in
     let second = k d first.0 in (
       second.0,
@@ -70,12 +70,12 @@ kept_further g old mid new clean h k d holds =
 
 -- and the file
 pub file_still : {S : Type 0} (g : Ghosts S) (file : StoreValue S) → IsSameFile g file file
-file_still g file = record { owner_is = refl; clean = λ late. late; rows = kept_still g file }
+file_still g file = record { owner_is = refl; clean = λ late. late; rows = preserved_still g file }
 
 pub file_further : {S : Type 0} (g : Ghosts S) (old mid new : StoreValue S) → IsSameFile g old mid →
     IsSameFile g mid new → IsSameFile g old new
 file_further g old mid new a b = record {
   owner_is = b.owner_is ∙ a.owner_is;
   clean = λ late. a.clean (b.clean late);
-  rows = kept_further g old mid new b.clean a.rows b.rows;
+  rows = preserved_further g old mid new b.clean a.rows b.rows;
 }

@@ -7,7 +7,7 @@ use Rattle.desk_types.specs.declared.outcome.Outcome.{Outcome}
 use Rattle.desk_types.specs.declared.refusal.Refusal.{Refusal}
 use Rattle.desk_types.specs.declared.refusal.Refusal.TheVariants as refusals
 use Rattle.desk_types.specs.Refusal.{is_want_of_memory, IsStoreRefusal}
-use Rattle.desk_threads.specs.ItemAnswers.{waiting_on, AreTold, HearAndAreTold}
+use Rattle.desk_threads.specs.ItemAnswers.{waiting_on, AreInformed, HearAndAreInformed}
 use Rattle.desk_threads.specs.Waiting.{SessionValue, after_stop, HearsAll}
 use Rattle.desk_threads.specs.Filed.{goes_on_after}
 use Rattle.desk_threads.proofs.KeeperRuns.{if_ok}
@@ -19,51 +19,52 @@ goes_on_if : {A : Type 0} (outcome known : Result A Refusal) (goes : Bool) → g
 goes_on_if outcome known goes is same = is ∙ ap goes_on_after same
 
 -- who was told, begun with the sessions as they wait on
-told_from : (list : List Entry) (noted going before new : List SessionValue) (goes know : Bool) →
-    going ≡ waiting_on goes noted → goes ≡ know → before ≡ going → AreTold list before new →
-    AreTold list (waiting_on know noted) new
-told_from list noted going before new goes know going_is goes_is before_is told =
-    subst (λ l. AreTold list l new) (before_is ∙ going_is ∙ ap (λ b. waiting_on b noted) goes_is) told
+reported_from : (list : List Entry) (noted going before new : List SessionValue) (goes know : Bool) →
+    going ≡ waiting_on goes noted → goes ≡ know → before ≡ going → AreInformed list before new →
+    AreInformed list (waiting_on know noted) new
+reported_from list noted going before new goes know going_is goes_is before_is reported =
+    subst (λ l. AreInformed list l new) (before_is ∙ going_is ∙ ap (λ b. waiting_on b noted) goes_is) reported
 
 -- at Ok
-pub told_done : {A : Type 0} (outcome : Result A Refusal) (answers_of : A → List Outcome) (step : A)
+pub reported_done : {A : Type 0} (outcome : Result A Refusal) (answers_of : A → List Outcome) (step : A)
     (answer : Result Bool Refusal) (whole : Bool) (Gives : List Outcome → Type 0) (list : List Entry)
     (noted going mid before new : List SessionValue) (goes : Bool) → outcome ≡ Ok step → answer ≡ Ok whole →
     goes ≡ goes_on_after outcome → going ≡ waiting_on goes noted → IfOk outcome (λ s. Gives (answers_of s)) →
-    AllZip (HearsAll (answers_of step)) going mid → before ≡ mid → AreTold list before new →
-    IfOk answer (λ _. (answers : List Outcome) × Gives answers × HearAndAreTold list answers noted new)
-told_done outcome answers_of step answer whole Gives list noted going mid before new goes is answer_is goes_is going_is
-    gave heard before_is told = rw answer_is (
+    AllZip (HearsAll (answers_of step)) going mid → before ≡ mid → AreInformed list before new →
+    IfOk answer (λ _. (answers : List Outcome) × Gives answers × HearAndAreInformed list answers noted new)
+reported_done outcome answers_of step answer whole Gives list noted going mid before new goes is answer_is goes_is
+    going_is
+    gave heard before_is reported = rw answer_is (
       answers_of step,
       if_ok outcome step (λ s. Gives (answers_of s)) is gave,
       (
         mid,
         subst (λ l. AllZip (HearsAll (answers_of step)) l mid)
             (going_is ∙ ap (λ b. waiting_on b noted) (goes_on_if outcome (Ok step) goes goes_is is)) heard,
-        subst (λ l. AreTold list l new) before_is told,
+        subst (λ l. AreInformed list l new) before_is reported,
       ),
     )
 
 -- at 40
-pub told_waiting : {A : Type 0} (outcome : Result A Refusal) (answer : Result Bool Refusal) (r : Refusal)
+pub reported_waiting : {A : Type 0} (outcome : Result A Refusal) (answer : Result Bool Refusal) (r : Refusal)
     (list : List Entry) (noted going before new : List SessionValue) (goes : Bool) → outcome ≡ Err r →
     answer ≡ Err r → goes ≡ goes_on_after outcome → going ≡ waiting_on goes noted → before ≡ going →
-    AreTold list before new → IfErr answer (λ r. r ≡ refusals.WantOfMemory → AreTold list noted new)
-told_waiting outcome answer r list noted going before new goes is answer_is goes_is going_is before_is told =
+    AreInformed list before new → IfErr answer (λ r. r ≡ refusals.WantOfMemory → AreInformed list noted new)
+reported_waiting outcome answer r list noted going before new goes is answer_is goes_is going_is before_is reported =
     rw answer_is (λ memory.
-    told_from list noted going before new goes true going_is
-    (goes_on_if outcome (Err r) goes goes_is is ∙ ap is_want_of_memory memory) before_is told)
+    reported_from list noted going before new goes true going_is
+    (goes_on_if outcome (Err r) goes goes_is is ∙ ap is_want_of_memory memory) before_is reported)
 
 -- at 41
-pub told_stopped : {A : Type 0} (outcome : Result A Refusal) (answer : Result Bool Refusal) (r : Refusal)
+pub reported_stopped : {A : Type 0} (outcome : Result A Refusal) (answer : Result Bool Refusal) (r : Refusal)
     (list : List Entry) (noted going before new : List SessionValue) (goes : Bool) → outcome ≡ Err r →
     answer ≡ Err r → goes ≡ goes_on_after outcome → going ≡ waiting_on goes noted → before ≡ going →
-    AreTold list before new →
-    IfErr answer (λ r. IsStoreRefusal r → AreTold list (map after_stop noted) new)
-told_stopped outcome answer r list noted going before new goes is answer_is goes_is going_is before_is told =
+    AreInformed list before new →
+    IfErr answer (λ r. IsStoreRefusal r → AreInformed list (map after_stop noted) new)
+reported_stopped outcome answer r list noted going before new goes is answer_is goes_is going_is before_is reported =
     rw answer_is (λ fault.
-    told_from list noted going before new goes false going_is
-    (stops_after r goes (goes_on_if outcome (Err r) goes goes_is is) fault) before_is told)
+    reported_from list noted going before new goes false going_is
+    (stops_after r goes (goes_on_if outcome (Err r) goes goes_is is) fault) before_is reported)
 
 -- what holds once the keeper stops
 pub once_stopped : {A : Type 0} (outcome : Result A Refusal) (answer : Result Bool Refusal) (r : Refusal)
