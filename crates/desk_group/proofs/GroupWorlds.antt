@@ -14,7 +14,7 @@ use Rattle.desk_node.specs.Heard.{Says}
 use Rattle.desk_node.specs.Rules.{node_step}
 use Rattle.desk_node.specs.State.{State}
 use Rattle.desk_threads.specs.Keeper.{KeeperState, KeeperStep, keeper_step, tick_event, suspects, TakesItem}
-use Rattle.desk_threads.specs.Keeper.{owned}
+use Rattle.desk_threads.specs.Keeper.{TakesItems}
 use Rattle.desk_threads.specs.OwnedValue.{OwnedValue, state_of, IsStateOf}
 use Rattle.desk_world.specs.declared.world_event.WorldEvent.{WorldEvent}
 use Rattle.desk_world.specs.World.{World, first_state, first_world, world_from, node_of_world}

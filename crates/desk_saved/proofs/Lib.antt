@@ -43,7 +43,6 @@ pub mod OldStates
 pub mod GrownFiles
 pub mod ClientSelectAnswers
 pub mod ClientsLoading
-pub mod Changing
 pub mod SaveOutcomes
 pub mod Opening
 pub mod OldOpening

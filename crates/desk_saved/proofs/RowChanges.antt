@@ -343,10 +343,27 @@ module _ {S : Type 0} (g : Ghosts S) where
     quiet = p.quiet;
   }
 
-  pub makes_none : (s : Held S) (Spared : Type 0) → MakesRows g s s Keeps (AreApt []) (Ok tt) (effects []) Spared
-  makes_none s Spared = record {
-    rows = λ clean inside d rows keeps apt. (unmoved d (state g s) rows inside keeps, λ _. refl);
+  -- no statement makes nothing, where the rows are already what they were to become
+  pub makes_same : (s : Held S) (Apt : StateRows → Type 0) (made : StateRows → StateRows) (Spared : Type 0)
+      → ((rows : StateRows) → Apt rows → rows ≡ made rows) → MakesRows g s s Keeps Apt (Ok tt) made Spared
+  makes_same s Apt made Spared same = record {
+    rows = λ clean inside d rows keeps apt. (
+      subst (Leaves d (state g s) (state g s)) (same rows apt) (unmoved d (state g s) rows inside keeps),
+      λ _. refl,
+    );
     quiet = quiet_none s;
+  }
+
+  pub makes_none : (s : Held S) (Spared : Type 0) → MakesRows g s s Keeps (AreApt []) (Ok tt) (effects []) Spared
+  makes_none s Spared = makes_same s (AreApt []) (effects []) Spared (λ rows _. refl)
+
+  -- what asks less of the rows makes the same of those that are as more asks
+  pub makes_where : (a b : Held S) (Apt More : StateRows → Type 0) (made : StateRows → StateRows) (Spared : Type 0)
+      → ((rows : StateRows) → More rows → Apt rows) → (r : Result (Unit {0}) Error)
+      → MakesRows g a b Keeps Apt r made Spared → MakesRows g a b Keeps More r made Spared
+  makes_where a b Apt More made Spared apt r p = record {
+    rows = λ clean inside d rows keeps more. p.rows clean inside d rows keeps (apt rows more);
+    quiet = p.quiet;
   }
 
   module _ (a b c : Held S) (Stands : Layout → Database → StateRows → Type 0) (Apt Apt1 Apt2 : StateRows → Type 0)

@@ -1,24 +1,30 @@
 -- What a save of the object answers.
-use Rattle.std.proofs.Common.{◌≡◌, ◌⊎◌, inl, ℕ, ◌≤◌, ◌++◌, take, drop, length, Ok, Err, IsTrue, true, false}
-use Rattle.std.proofs.Common.{refl, sym, subst}
+use Rattle.std.proofs.Common.{◌≡◌, ◌⊎◌, inl, ℕ, ◌≤◌, List, take, drop, length, Bool, true, false, IsTrue}
+use Rattle.std.proofs.Common.{Result, Ok, Err, IfOk, OnErr, refl, sym, subst, ap, ◌∙◌}
+use Rattle.std.specs.List.{AllByRecursion}
 use Rattle.sqlite_trees.specs.Tree.{Trees}
 use Rattle.sqlite_trees.specs.declared.store.Store.{Ghosts}
-use Rattle.sqlite.specs.Effect.{IsDatabase}
+use Rattle.sqlite.specs.declared.error.Error.{Error}
 use Rattle.sqlite.specs.State.{HasCleanDisk, Survives}
 use Rattle.sqlite.specs.Held.{Held, state}
+use Rattle.sqlite.proofs.StateLemmas.{survives_weaker}
 use Rattle.desk_types.specs.declared.refusal.Refusal.TheVariants as refusals
 use Rattle.desk_log.specs.SavedValue.{SavedValue, IsSaved}
+use Rattle.desk_saved.specs.declared.changes.Missing.TheVariants as missings
+use Rattle.desk_saved.specs.declared.steps.RowStep.{RowStep}
+use Rattle.desk_saved.specs.Changes.{effects, AreApt, IsFitStep, SparesAll, StandsBefore}
+use Rattle.desk_saved.specs.Transactions.{Transacts}
 use Rattle.desk_saved.specs.Contents.{trees_of}
-use Rattle.desk_saved.specs.DeskTables.{Layout, own_rows, Keeps, Saves, KeepsOthers, Changes, AreWithin, AreKeyed}
-use Rattle.desk_saved.specs.DeskTables.{up_to}
-use Rattle.desk_saved.specs.Clients.{settle_all, changed_clients}
-use Rattle.desk_saved.specs.File.{HasFile, HoldsFile, IsState, state_rows, log_of, rows_from, client_rows}
+use Rattle.desk_saved.specs.DeskTables.{Layout, KeepsOthers}
+use Rattle.desk_saved.specs.File.{HasFile, HoldsFile, IsState}
 use Rattle.desk_codec.specs.Ranges.{FitsEntries}
-use Rattle.desk_saved.specs.AfterRefusal.{ShowsAsBefore}
+use Rattle.desk_saved.specs.AfterRefusal.{ShowsAsBefore, KeepsFaultsAndLimit}
 use Rattle.desk_saved.specs.Saving.{HasSaved, StopLeaves}
 use Rattle.desk_saved.specs.Store.{StoreValue}
 use Rattle.desk_saved.proofs.SeveralStatements.{others_same}
 use Rattle.desk_saved.proofs.SavedRows.{holds_new, left_old_or_new, left_alone, others_alone, sound_alone}
+use Rattle.desk_saved.proofs.SaveSteps.{AreOfSave}
+use Rattle.desk_saved.proofs.Opening.{shown_undone}
 use Rattle.desk_saved.proofs.Reading.{fit_both, fit_first}
 use Rattle.desk_saved.proofs.Restarts.{restarts, restarts_none}
 
@@ -119,74 +125,76 @@ module _ {S : Type 0} (g : Ghosts S) (file : StoreValue S) (given : SavedValue)
   }
 
 -- a save that changes the rows after a front which both logs have in common, or fails to
-module _ {S : Type 0} (g : Ghosts S) (file : StoreValue S) (conn : Held S) (last given : SavedValue) (front : ℕ)
-    (running : file.stopped ≡ false) (other : ¬ (file.last ≡ given)) (is_saved : IsSaved given)
-    (within : front ≤ length given.log) (same : take front file.last.log ≡ take front given.log)
-    (settled : LeavesCommitted g file.connection)
-    (clean : HasCleanDisk (state g conn) → HasCleanDisk (state g file.connection))
-    (limit : (state g conn).step_limit ≡ (state g file.connection).step_limit)
-    (crash : (d : Layout) → IsTrue (state g file.connection).is_open → IsDatabase (state g file.connection).now
-    → Keeps d (state g file.connection).now (state_rows file.owner file.last)
-    → AreWithin (length file.last.log) (log_of file.last) → AreKeyed (client_rows file.last.log)
-    → Survives (state g file.connection) (state g conn)
-    (λ trees. Changes d (trees_of g file.connection) trees (own_rows file.owner.id
-    file.owner.n file.owner.domain given.view given.normal given.commit
-    (up_to front (log_of file.last) ++ rows_from front (drop front given.log))
-    (settle_all given.log (changed_clients front file.last.log given.log) (client_rows file.last.log)))))
-    (commits : Survives (state g file.connection) (state g conn) (λ _. FitsEntries (drop front given.log))) where
-  leaves_either : (d : Layout) → HoldsFile g d file.connection file.owner file.last → HasCleanDisk (state g conn)
-      → StopLeaves g d file.connection conn
-      (λ trees. HasFile d file.owner file.last trees ⊎ HasFile d file.owner given trees)
-  leaves_either d holds =
-      left_old_or_new g file.connection conn d file.owner file.last given front within same holds clean (crash d)
-      settled
+module _ {S : Type 0} (g : Ghosts S) (file : StoreValue S) (held conn : Held S) (is : held ≡ file.connection)
+    (last given : SavedValue) (front : ℕ) (running : file.stopped ≡ false) (other : ¬ (file.last ≡ given))
+    (is_saved : IsSaved given) (within : front ≤ length given.log)
+    (same : take front file.last.log ≡ take front given.log) (settled : LeavesCommitted g file.connection)
+    (keeps : KeepsFaultsAndLimit (state g held) (state g conn)) (all : List RowStep)
+    (save : AreOfSave file.owner file.last given front all) where
+  abbrev Reported : Result Bool Error → Type 0
+  Reported r = Transacts g held conn (StandsBefore missings.Nothing) (AreApt all) r (effects all)
+      (AllByRecursion IsFitStep all) (SparesAll missings.Nothing all)
 
-  pub failed : {T : Type 0}
-      → (HasCleanDisk (state g conn) → ShowsAsBefore (state g file.connection) (state g conn))
+  clean : HasCleanDisk (state g conn) → HasCleanDisk (state g file.connection)
+  clean late = subst (λ h. HasCleanDisk (state g h)) is (keeps.0 late)
+
+  limit : (state g conn).step_limit ≡ (state g file.connection).step_limit
+  limit = keeps.1 ∙ ap (λ h. (state g h).step_limit) is
+
+  module _ (r : Result Bool Error) (reported : Reported r) where
+    leaves_either : (d : Layout) → HoldsFile g d file.connection file.owner file.last → HasCleanDisk (state g conn)
+        → StopLeaves g d file.connection conn
+        (λ trees. HasFile d file.owner file.last trees ⊎ HasFile d file.owner given trees)
+    leaves_either d holds =
+        left_old_or_new g held file.connection conn is d file.owner file.last given front within same holds clean all
+        save (AllByRecursion IsFitStep all) (SparesAll missings.Nothing all) r reported settled
+
+    commits : Survives (state g file.connection) (state g conn) (λ _. FitsEntries (drop front given.log))
+    commits =
+        subst (λ h. Survives (state g h) (state g conn) (λ _. FitsEntries (drop front given.log))) is
+        (survives_weaker (state g held) (state g conn) _ _ (λ _ trees fit. save.fits fit) reported.commits)
+
+  pub failed : {T : Type 0} (r : Result Bool Error) → Reported r → (r ≡ Ok true → ⊥)
+      → (HasCleanDisk (state g conn) → OnErr r (ShowsAsBefore (state g held) (state g conn)))
+      → IfOk r (λ done. done ≡ false → conn ≡ held)
       → HasSaved {T = T} g file (record file { connection = conn; last = last; stopped = true }) given
       (Err refusals.StoreFault)
-  failed undone = record {
-    stopped = λ is. absurd (let it = is in cc);
+  failed r reported not undone busy = record {
+    stopped = λ was. absurd (let it = was in cc);
     fault = λ _. (refl, refl);
-    idle = λ _ is. absurd (other is);
+    idle = λ _ was. absurd (other was);
     same_own = refl;
     last = tt;
     is_state = λ _. tt;
     clean = clean;
     limit = limit;
-    undone = λ _. undone;
+    undone = λ _ late. subst (λ h. ShowsAsBefore (state g h) (state g conn)) is
+        (shown_undone _ _ _ r not (undone late) busy (ap (state g)));
     saved = λ _ _ _. tt;
     others = λ _ _ _ _. tt;
-    stop = λ _ d holds. leaves_either d holds;
+    stop = λ _ d holds. leaves_either r reported d holds;
     preserved = λ _ _ _ _. tt;
-    restart = λ is _ d holds.
-        restarts g file.connection conn d file.owner file.last given front same holds clean settled commits
-        (leaves_either d holds) is is_saved;
+    restart = λ was _ d holds.
+        restarts g file.connection conn d file.owner file.last given front same holds clean settled
+        (commits r reported) (leaves_either r reported d holds) was is_saved;
   }
 
-  pub changed : {T : Type 0} (x : T) → last ≡ given → FitsEntries (drop front given.log) → LeavesCommitted g conn
-      → ((d : Layout) → HasCleanDisk (state g conn) → IsTrue (state g file.connection).is_open
-      → IsDatabase (state g file.connection).now
-      → Keeps d (state g file.connection).now (state_rows file.owner file.last)
-      → AreWithin (length file.last.log) (log_of file.last) → AreKeyed (client_rows file.last.log)
-      → Saves d (state g conn) (own_rows file.owner.id
-      file.owner.n file.owner.domain given.view given.normal given.commit
-      (up_to front (log_of file.last) ++ rows_from front (drop front given.log))
-      (settle_all given.log (changed_clients front file.last.log given.log) (client_rows file.last.log)))
-      × KeepsOthers d (trees_of g file.connection) (trees_of g conn))
-      → HasSaved g file (record file { connection = conn; last = last }) given (Ok x)
-  changed x is_last more settled' rows =
+  pub changed : {T : Type 0} (x : T) (done : Bool) → IsTrue done → Reported (Ok done) → last ≡ given
+      → LeavesCommitted g conn → HasSaved g file (record file { connection = conn; last = last }) given (Ok x)
+  changed x done is_done reported is_last settled' =
       let holds' = λ (d : Layout) (holds : HoldsFile g d file.connection file.owner file.last).
-      holds_new g file.connection conn d file.owner file.last given front within same holds clean (rows d) in
+      holds_new g held file.connection conn is d file.owner file.last given front within same holds clean all save
+      (AllByRecursion IsFitStep all) (SparesAll missings.Nothing all) done is_done reported in
       record {
-        stopped = λ is. absurd (let it = is in cc);
+        stopped = λ was. absurd (let it = was in cc);
         fault = λ _. tt;
-        idle = λ _ is. absurd (other is);
+        idle = λ _ was. absurd (other was);
         same_own = refl;
         last = (is_last, running, running);
-        is_state = λ is. record {
+        is_state = λ was. record {
           saved = is_saved;
-          entries = fit_both front given.log (subst FitsEntries same (fit_first front file.last.log is.entries)) more;
+          entries = fit_both front given.log (subst FitsEntries same (fit_first front file.last.log was.entries))
+              (save.fits (reported.fits is_done));
         };
         clean = clean;
         limit = limit;
@@ -197,11 +205,11 @@ module _ {S : Type 0} (g : Ghosts S) (file : StoreValue S) (conn : Held S) (last
           subst (λ s. HoldsFile g d conn file.owner s) (sym is_last) (holds' d holds).0,
         );
         others = λ _ d holds. (holds' d holds).1;
-        stop = λ _ d holds. leaves_either d holds;
+        stop = λ _ d holds. leaves_either (Ok done) reported d holds;
         preserved = λ _ d holds late.
             let it = holds' d holds in
             leaves_held g conn d file given it.0 settled' late (it.1 late);
-        restart = λ is _ d holds.
-            restarts g file.connection conn d file.owner file.last given front same holds clean settled commits
-            (leaves_either d holds) is is_saved;
+        restart = λ was _ d holds.
+            restarts g file.connection conn d file.owner file.last given front same holds clean settled
+            (commits (Ok done) reported) (leaves_either (Ok done) reported d holds) was is_saved;
       }

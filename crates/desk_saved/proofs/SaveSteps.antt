@@ -1,12 +1,20 @@
 -- The steps of a save make the rows those of the state.
-use Rattle.std.proofs.Common.{◌≡◌, ◌++◌, ◌⊎◌, inl, inr, [], ◌∷◌, ℕ, List, ap, ◌∙◌, sym, subst, refl}
-use Rattle.sqlite_value.specs.Order.{Row}
-use Rattle.desk_saved.specs.DeskTables.{StateRows, AreWithin, AreKeyed, own_rows, own_row, versioned_row, up_to}
-use Rattle.desk_saved.specs.declared.changes.RowChange.TheVariants as changes
+use denote.Ref.{Bor}
+use Rattle.std.proofs.Common.{◌≡◌, ◌++◌, [], ◌∷◌, ℕ, List, drop, length, subst, refl}
+use Rattle.std.specs.List.{AllByRecursion}
+use Rattle.desk_types.specs.declared.command.Entry.{Entry}
+use Rattle.desk_types.specs.declared.owner.Owner.{Owner}
+use Rattle.desk_log.specs.SavedValue.{SavedValue}
+use Rattle.desk_codec.specs.Ranges.{FitsEntries}
+use Rattle.desk_saved.specs.DeskTables.{StateRows, own_rows, versioned_row, up_to}
+use Rattle.desk_saved.specs.Clients.{settle_all, changed_clients}
+use Rattle.desk_saved.specs.File.{state_rows, log_of, rows_from, client_rows}
 use Rattle.desk_saved.specs.declared.steps.RowStep.{RowStep}
 use Rattle.desk_saved.specs.declared.steps.RowStep.TheVariants as steps
 use Rattle.desk_saved.specs.declared.transactions.Numbers.{Numbers}
-use Rattle.desk_saved.specs.Changes.{effects, step_effect, IsOwnRow, IsAptStep, AreApt}
+use Rattle.desk_saved.specs.Changes.{effects, IsOwnRow, IsFitStep, AreApt}
+use Rattle.desk_saved.proofs.Fronts.{are_within}
+use Rattle.desk_saved.proofs.Settling.{keyed_clients}
 
 -- a row of a node is one
 pub own_is : (version id n : ℕ) (domain : List ℕ) (view normal commit : ℕ)
@@ -21,66 +29,40 @@ own_is version id n domain view normal commit = record {
   is = refl;
 }
 
-module _ (front held id n : ℕ) (domain : List ℕ) (before numbers : Numbers) (entries rows : List Row)
-    (within : AreWithin held entries) (keyed : AreKeyed rows) where
-  abbrev pub old_rows : StateRows
-  old_rows = own_rows id n domain before.view before.normal before.commit entries rows
+-- the numbers of a state
+abbrev pub saved_numbers : SavedValue → Numbers
+saved_numbers s = record { view = s.view; normal = s.normal; commit = s.commit }
 
-  cut_does : (cut : RowStep)
-      → ((front ≡ held) × (cut ≡ steps.Nothing)) ⊎ (cut ≡ steps.One (changes.CutEntries front))
-      → IsAptStep cut old_rows × (step_effect cut old_rows ≡ record old_rows { entries = up_to front entries })
-  cut_does cut (inl none) = rw none.1 (
-    tt,
-    ap (λ l. record old_rows { entries = l })
-        (sym (subst (λ k. up_to k entries ≡ entries) (sym none.0) within.none_past)),
-  )
-  cut_does cut (inr is) = rw is (within.keyed, refl)
+-- the rows of a state that becomes another, whose log it has in common up to a front
+abbrev pub rows_after : Owner → SavedValue → SavedValue → ℕ → StateRows
+rows_after own last new front = own_rows own.id own.n own.domain new.view new.normal new.commit
+    (up_to front (log_of last) ++ rows_from front (drop front new.log))
+    (settle_all new.log (changed_clients front last.log new.log) (client_rows last.log))
 
-  set_does : (set : RowStep) (mid : StateRows) → mid.own ≡ old_rows.own
-      → ((before ≡ numbers) × (set ≡ steps.Nothing))
-      ⊎ (set ≡ steps.One (changes.SetNumbers numbers.view numbers.normal numbers.commit))
-      → IsAptStep set mid × (step_effect set mid
-      ≡ record mid { own = own_row id n domain numbers.view numbers.normal numbers.commit ∷ [] })
-  set_does set mid own (inl none) = rw none.1 (
-    tt,
-    ap (λ l. record mid { own = l }) (own ∙ ap (λ (m : Numbers). own_row id n domain m.view m.normal m.commit
-        ∷ []) none.0),
-  )
-  set_does set mid own (inr is) = rw (is, own) (
-    own_is 2 id n domain before.view before.normal before.commit,
-    refl,
-  )
+-- steps make the rows of a state those of another
+pub record AreOfSave (own : Owner) (last new : SavedValue) (front : ℕ) (all : List RowStep) : Type 0 where
+  pub apt : AreApt all (state_rows own last)
+  pub made : effects all (state_rows own last) ≡ rows_after own last new front
+  pub fits : AllByRecursion IsFitStep all → FitsEntries (drop front new.log)
 
-  module _ (cut set add settle : RowStep) (more : List Row) (settled : List Row)
-      (cut_is : ((front ≡ held) × (cut ≡ steps.Nothing)) ⊎ (cut ≡ steps.One (changes.CutEntries front)))
-      (set_is : ((before ≡ numbers) × (set ≡ steps.Nothing))
-      ⊎ (set ≡ steps.One (changes.SetNumbers numbers.view numbers.normal numbers.commit)))
-      (adds : (r : StateRows) → IsAptStep add r × (step_effect add r ≡ record r { entries = r.entries ++ more }))
-      (settles : (r : StateRows) → r.clients ≡ rows
-      → IsAptStep settle r × (step_effect settle r ≡ record r { clients = settled })) where
-    abbrev first : StateRows
-    first = record old_rows { entries = up_to front entries }
-
-    abbrev second : StateRows
-    second = record old_rows { entries = up_to front entries ++ more }
-
-    abbrev third : StateRows
-    third = record second { clients = settled }
-
-    pub saved : effects (cut ∷ add ∷ settle ∷ set ∷ []) old_rows ≡ own_rows id n domain numbers.view numbers.normal
-        numbers.commit (up_to front entries ++ more) settled
-    saved = ap (λ r. step_effect set (step_effect settle (step_effect add r))) (cut_does cut cut_is).1
-        ∙ ap (λ r. step_effect set (step_effect settle r)) (adds first).1
-        ∙ ap (step_effect set) (settles second refl).1 ∙ (set_does set third refl set_is).1
-
-    pub apt : AreApt (cut ∷ add ∷ settle ∷ set ∷ []) old_rows
-    apt = (
-      (cut_does cut cut_is).0,
-      subst (AreApt (add ∷ settle ∷ set ∷ [])) (sym (cut_does cut cut_is).1) (
-        (adds first).0,
-        subst (AreApt (settle ∷ set ∷ [])) (sym (adds first).1) (
-          (settles second refl).0,
-          subst (AreApt (set ∷ [])) (sym (settles second refl).1) ((set_does set third refl set_is).0, tt),
+pub of_save : (own : Owner) (last new : SavedValue) (front held : ℕ) (before numbers : Numbers)
+    (more : Bor (List Entry)) (log : Bor (List Entry)) (clients : Bor (List ℕ)) → held ≡ length last.log
+    → before ≡ saved_numbers last → numbers ≡ saved_numbers new → more.now ≡ drop front new.log
+    → log.now ≡ new.log → clients.now ≡ changed_clients front last.log new.log
+    → AreOfSave own last new front (steps.CutPast front held ∷ steps.AddEntries front more ∷ steps.Settle log clients
+    ∷ steps.SetChanged before numbers ∷ [])
+of_save own last new front held before numbers more log clients held_is before_is numbers_is more_is log_is clients_is =
+    record {
+      apt = rw (held_is, before_is) (
+        are_within last.log,
+        (
+          tt,
+          (
+            keyed_clients last.log,
+            ((own_is 2 own.id own.n own.domain last.view last.normal last.commit, refl), tt),
+          ),
         ),
-      ),
-    )
+      );
+      made = rw (numbers_is, more_is, log_is, clients_is) refl;
+      fits = λ h. subst FitsEntries more_is h.1.0;
+    }

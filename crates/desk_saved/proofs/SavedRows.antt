@@ -1,34 +1,41 @@
 -- What a save of the object keeps.
 use Rattle.std.proofs.Common.{◌≡◌, ◌⊎◌, inl, inr, ℕ, ◌≤◌, ◌++◌, take, drop, length, IsTrue, sym}
-use Rattle.std.proofs.Common.{ap, subst, ◌∙◌, List, map, IsPermutation}
+use Rattle.std.proofs.Common.{Bool, Result, Ok, ap, subst, ◌∙◌, List, map, IsPermutation}
 use Rattle.std.proofs.lemmas.List.Sorted.{IsPermutation-sym, IsPermutation-trans}
 use Rattle.sqlite_value.specs.Order.{Row}
 use Rattle.sqlite_trees.specs.Tree.{Trees}
 use Rattle.sqlite_trees.specs.declared.store.Store.{Ghosts}
 use Rattle.sqlite_catalog.specs.Listing.{IsSound}
 use Rattle.sqlite.specs.Effect.{Database, IsDatabase}
-use Rattle.sqlite.specs.State.{HasCleanDisk, Survives, IsUnchanged}
+use Rattle.sqlite.specs.declared.error.Error.{Error}
+use Rattle.sqlite.specs.State.{HasCleanDisk, IsUnchanged}
 use Rattle.sqlite.specs.Held.{Held, state}
 use Rattle.desk_log.specs.SavedValue.{SavedValue}
 use Rattle.desk_types.specs.declared.owner.Owner.{Owner}
 use Rattle.desk_saved.specs.Contents.{schema_of, trees_of}
-use Rattle.desk_saved.specs.DeskTables.{Layout, StateRows, own_rows, Keeps, Saves, KeepsOthers, Changes}
-use Rattle.desk_saved.specs.DeskTables.{AreWithin, AreKeyed, HasRows, shown_entry, up_to}
-use Rattle.desk_saved.specs.Clients.{settle_all, changed_clients}
-use Rattle.desk_saved.specs.File.{HasFile, HoldsFile, state_rows, log_of, rows_from, client_rows}
-use Rattle.desk_saved.proofs.Fronts.{new_rows, are_within}
-use Rattle.desk_saved.proofs.Settling.{clients_settled, keyed_clients}
+use Rattle.desk_saved.specs.declared.changes.Missing.TheVariants as missings
+use Rattle.desk_saved.specs.declared.steps.RowStep.{RowStep}
+use Rattle.desk_saved.specs.Changes.{effects, AreApt, StandsBefore}
+use Rattle.desk_saved.specs.Transactions.{Transacts}
+use Rattle.desk_saved.specs.DeskTables.{Layout, StateRows, Saves, KeepsOthers, Changes, HasRows, shown_entry, up_to}
+use Rattle.desk_saved.specs.File.{HasFile, HoldsFile, state_rows, log_of, rows_from}
+use Rattle.desk_saved.proofs.Fronts.{new_rows}
+use Rattle.desk_saved.proofs.Settling.{clients_settled}
+use Rattle.desk_saved.proofs.OneTransaction.{left_after, saved_after}
+use Rattle.desk_saved.proofs.SaveSteps.{rows_after, AreOfSave}
 use Rattle.desk_saved.proofs.SeveralStatements.{others_same}
 use Rattle.desk_saved.proofs.LoadStateAnswers.{still_saved}
 
-module _ {S : Type 0} (g : Ghosts S) (old new : Held S) (d : Layout) (own : Owner) (last saved : SavedValue) (front : ℕ)
-    (within : front ≤ length saved.log)
+module _ {S : Type 0} (g : Ghosts S) (given old new : Held S) (is : given ≡ old) (d : Layout) (own : Owner)
+    (last saved : SavedValue) (front : ℕ) (within : front ≤ length saved.log)
     (same : take front last.log ≡ take front saved.log) (holds : HoldsFile g d old own last)
-    (clean : HasCleanDisk (state g new) → HasCleanDisk (state g old)) where
+    (clean : HasCleanDisk (state g new) → HasCleanDisk (state g old)) (all : List RowStep)
+    (save : AreOfSave own last saved front all) (Fit Spared : Type 0) where
   abbrev rows' : StateRows
-  rows' = own_rows own.id own.n own.domain saved.view saved.normal saved.commit
-      (up_to front (log_of last) ++ rows_from front (drop front saved.log))
-      (settle_all saved.log (changed_clients front last.log saved.log) (client_rows last.log))
+  rows' = rows_after own last saved front
+
+  abbrev Reported : Result Bool Error → Type 0
+  Reported r = Transacts g given new (StandsBefore missings.Nothing) (AreApt all) r (effects all) Fit Spared
 
   -- the entries are those of the saved state, and so are the clients in some order
   entries_are : (P : List Row → Type 0)
@@ -58,51 +65,42 @@ module _ {S : Type 0} (g : Ghosts S) (old new : Held S) (d : Layout) (own : Owne
   live : Saves d (state g old) (state_rows own last) → IsDatabase (state g old).now
   live was = subst (λ schema. IsSound schema (trees_of g old)) (sym was.keeps.schema) was.sound
 
-  -- the clauses of the call, whose premises the old file meets
-  module _ (crash : IsTrue (state g old).is_open → IsDatabase (state g old).now
-      → Keeps d (state g old).now (state_rows own last)
-      → AreWithin (length last.log) (log_of last) → AreKeyed (client_rows last.log)
-      → Survives (state g old) (state g new)
-      (λ trees. Changes d (trees_of g old) trees rows')) where
-    left_by : HasCleanDisk (state g new) → (trees : Trees) → (state g new).may_leave trees
-        → (state g old).may_leave trees ⊎ Changes d (trees_of g old) trees (state_rows own saved)
-    left_by late trees leaves =
-        let was = holds (clean late) in
-        elim ((crash was.is_open (live was) was.keeps (are_within last.log) (keyed_clients last.log)).crash late trees
-        leaves) [
-          | inl before ↦ inl before
-          | inr made ↦ inr (changes_new trees made)
-        ]
+  left_by : (r : Result Bool Error) → Reported r → HasCleanDisk (state g new)
+      → (trees : Trees) → (state g new).may_leave trees
+      → (state g old).may_leave trees ⊎ Changes d (trees_of g old) trees (state_rows own saved)
+  left_by r reported late trees leaves =
+      let was = holds (clean late) in
+      elim ((left_after g given old new is missings.Nothing all Fit Spared d (state_rows own last) rows' was.keeps
+      save.apt save.made was.is_open (live was) r reported).crash late trees leaves) [
+        | inl before ↦ inl before
+        | inr made ↦ inr (changes_new trees made.0)
+      ]
 
-    pub left_old_or_new : (IsTrue (state g old).is_open → (trees : Trees) → (state g old).may_leave trees
-        → trees ≡ (state g old).committed.trees)
-        → HasCleanDisk (state g new) → (trees : Trees) → (state g new).may_leave trees
-        → (HasFile d own last trees ⊎ HasFile d own saved trees) × KeepsOthers d (trees_of g old) trees
-        × IsSound d.schema trees
-    left_old_or_new settled late trees leaves =
-        let was = holds (clean late) in
-        elim (left_by late trees leaves) [
-          | inl before ↦
-              let same = sym (settled was.is_open trees before ∙ ap (λ (db : Database). db.trees) was.committed) in (
-                inl (subst (λ t. HasFile d own last t) same was.keeps.rows),
-                subst (λ t. KeepsOthers d (trees_of g old) t) same (others_same d (trees_of g old)),
-                subst (λ t. IsSound d.schema t) same was.sound,
-              )
-          | inr made ↦ (inr made.0, made.1, made.2)
-        ]
+  pub left_old_or_new : (r : Result Bool Error) → Reported r
+      → (IsTrue (state g old).is_open → (trees : Trees) → (state g old).may_leave trees
+      → trees ≡ (state g old).committed.trees)
+      → HasCleanDisk (state g new) → (trees : Trees) → (state g new).may_leave trees
+      → (HasFile d own last trees ⊎ HasFile d own saved trees) × KeepsOthers d (trees_of g old) trees
+      × IsSound d.schema trees
+  left_old_or_new r reported settled late trees leaves =
+      let was = holds (clean late) in
+      elim (left_by r reported late trees leaves) [
+        | inl before ↦
+            let same = sym (settled was.is_open trees before ∙ ap (λ (db : Database). db.trees) was.committed) in (
+              inl (subst (λ t. HasFile d own last t) same was.keeps.rows),
+              subst (λ t. KeepsOthers d (trees_of g old) t) same (others_same d (trees_of g old)),
+              subst (λ t. IsSound d.schema t) same was.sound,
+            )
+        | inr made ↦ (inr made.0, made.1, made.2)
+      ]
 
-  pub holds_new : (HasCleanDisk (state g new) → IsTrue (state g old).is_open → IsDatabase (state g old).now
-      → Keeps d (state g old).now (state_rows own last) → AreWithin (length last.log) (log_of last)
-      → AreKeyed (client_rows last.log) → Saves d (state g new) rows' × KeepsOthers d (trees_of g old)
-      (trees_of g new))
-      → HoldsFile g d new own saved
+  pub holds_new : (done : Bool) → IsTrue done → Reported (Ok done) → HoldsFile g d new own saved
       × (HasCleanDisk (state g new) → KeepsOthers d (trees_of g old) (trees_of g new))
-  holds_new rows =
-      let is : HasCleanDisk (state g new) → Saves d (state g new) rows'
-      × KeepsOthers d (trees_of g old) (trees_of g new) =
-      λ late. let was = holds (clean late) in rows late was.is_open (live was) was.keeps (are_within last.log)
-      (keyed_clients last.log) in
-      (λ late. saves_new (is late).0, λ late. (is late).1)
+  holds_new done is_done reported =
+      let it = λ (late : HasCleanDisk (state g new)). let was = holds (clean late) in
+      saved_after g given old new is missings.Nothing all Fit Spared d (state_rows own last) rows' was.keeps save.apt
+      save.made was.is_open (live was) done is_done reported late in
+      (λ late. saves_new (it late).0, λ late. (it late).1)
 
 -- what a stop leaves of an open database whose saved state is committed
 module _ {S : Type 0} (g : Ghosts S) (new : Held S) (d : Layout) (own : Owner) (saved : SavedValue)

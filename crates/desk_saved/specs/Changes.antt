@@ -15,8 +15,9 @@ use Rattle.desk_saved.specs.declared.steps.RowStep.{RowStep}
 use Rattle.desk_saved.specs.declared.steps.RowStep.TheVariants as steps
 use Rattle.desk_saved.specs.declared.changes.Missing.{Missing}
 use Rattle.desk_saved.specs.declared.changes.Missing.TheVariants as missings
+use Rattle.desk_saved.specs.declared.transactions.Numbers.{Numbers}
 use Rattle.desk_saved.specs.Clients.{settle_all}
-use Rattle.desk_saved.specs.DeskTables.{Layout, StateRows, Keeps, AreKeyed, up_to, without_client}
+use Rattle.desk_saved.specs.DeskTables.{Layout, StateRows, Keeps, AreKeyed, AreWithin, up_to, without_client}
 use Rattle.desk_saved.specs.DeskTables.{client_table_row, own_row, versioned_row, shown_node, shown_entry}
 use Rattle.desk_saved.specs.File.{entry_row_at, rows_from}
 use Rattle.desk_saved.specs.NewTables.{Becomes}
@@ -67,10 +68,15 @@ change_effect (changes.SetNumbers view normal commit) rows =
     record rows { own = map (with_numbers view normal commit) rows.own }
 change_effect changes.SetVersion rows = record rows { own = map with_version rows.own }
 
+-- the change of the numbers to these
+abbrev pub numbers_set : Numbers → RowChange
+numbers_set numbers = changes.SetNumbers numbers.view numbers.normal numbers.commit
+
 -- what a step makes of them
 abbrev pub step_effect : RowStep → StateRows → StateRows
-step_effect steps.Nothing rows = rows
 step_effect (steps.One change) rows = change_effect change rows
+step_effect (steps.CutPast front held) rows = change_effect (changes.CutEntries front) rows
+step_effect (steps.SetChanged before numbers) rows = change_effect (numbers_set numbers) rows
 step_effect (steps.AddEntries front more) rows = record rows { entries = rows.entries ++ rows_from front more.now }
 step_effect (steps.Settle log clients) rows =
     record rows { clients = settle_all log.now clients.now rows.clients }
@@ -92,6 +98,8 @@ IsSmall changes.SetVersion = Unit {0}
 -- those of a step are
 abbrev pub IsSmallStep : RowStep → Type 0
 IsSmallStep (steps.One change) = IsSmall change
+IsSmallStep (steps.CutPast front held) = front < 2 ^ 63
+IsSmallStep (steps.SetChanged before numbers) = IsSmall (numbers_set numbers)
 IsSmallStep (steps.AddEntries front more) = front + length more.now < 2 ^ 63
 IsSmallStep _ = Unit {0}
 
@@ -128,6 +136,9 @@ IsApt _ rows = Unit {0}
 -- they are such as a step can be made of
 abbrev pub IsAptStep : RowStep → StateRows → Type 0
 IsAptStep (steps.One change) rows = IsApt change rows
+IsAptStep (steps.CutPast front held) rows = AreWithin held rows.entries
+IsAptStep (steps.SetChanged before numbers) rows =
+    IsOwnRow 2 rows.own × (change_effect (numbers_set before) rows ≡ rows)
 IsAptStep (steps.Settle log clients) rows = AreKeyed rows.clients
 IsAptStep _ rows = Unit {0}
 
@@ -145,6 +156,7 @@ Spares _ = Unit {0}
 -- a step writes none
 abbrev pub SparesStep : RowStep → Type 0
 SparesStep (steps.One change) = Spares change
+SparesStep (steps.CutPast front held) = ⊥
 SparesStep (steps.AddEntries front more) = ⊥
 SparesStep _ = Unit {0}
 

@@ -15,12 +15,12 @@ ghost use Rattle.desk_saved.specs.Saving.{HasSaved};
 ghost use Rattle.desk_saved.specs.SchemaRefusals.{HasTables, IsReferredTo, IsDeskSchema};
 
 use crate::changes::{Missing, RowChange};
-use crate::last_saved::{LastSaved, all_clients};
+use crate::last_saved::{LastSaved, all_clients, entries_after};
 use crate::load::load_state;
 use crate::old_file::load_old;
 use crate::shown::{can_grow, is_desk, is_old_desk, refusal_of};
 use crate::steps::RowStep;
-use crate::transactions::{Numbers, change, in_transaction};
+use crate::transactions::{Numbers, in_transaction};
 use desk_log::Saved;
 use desk_types::{Owner, Refusal};
 use sqlite::{Alter, Connection};
@@ -354,15 +354,20 @@ impl<S: Alter> SavedState<S> {
             return Err(self.stop());
         };
         let numbers = Numbers::of(saved);
-        match change(
+        let log = saved.log();
+        let more = entries_after(log.entries(), common);
+        let done = in_transaction(
             &mut *self.connection,
             self.alloc,
-            before,
-            common,
-            saved.log(),
-            clients.as_slice(),
-            numbers,
-        ) {
+            Missing::Nothing,
+            &[
+                RowStep::CutPast(common, before.count),
+                RowStep::AddEntries(common, more),
+                RowStep::Settle(log, clients.as_slice()),
+                RowStep::SetChanged(before.numbers, numbers),
+            ],
+        );
+        match done {
             Ok(true) => Ok(()),
             _ => Err(self.stop()),
         }

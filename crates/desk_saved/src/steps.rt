@@ -10,6 +10,7 @@ ghost use Rattle.desk_saved.specs.File.{rows_from};
 ghost use Rattle.desk_saved.specs.Transactions.{MakesRows};
 
 use crate::changes::{RowChange, run};
+use crate::transactions::Numbers;
 use desk_log::Log;
 use desk_types::{ClientId, Entry};
 use sqlite::{Alter, Error, Transaction};
@@ -18,9 +19,11 @@ use std::alloc::Global;
 /// A step of a transaction: a change, or many of one kind. The clients may live shorter than the saved state.
 #[derive(Clone, Copy)]
 pub(crate) enum RowStep<'s, 'c> {
-    /// No statement is run.
-    Nothing,
     One(RowChange<'s>),
+    /// Takes out the entries past a place, where none stands past another. Where the two are one, no statement is run.
+    CutPast(u64, u64),
+    /// Makes the numbers of the node's row others. Where the two are the same, no statement is run.
+    SetChanged(Numbers, Numbers),
     /// Puts the rows of entries that stand after so many others.
     AddEntries(u64, &'s [Entry]),
     /// Makes the rows of clients those of their latest entries in a log.
@@ -103,8 +106,20 @@ fn make_step<S: Alter>(
     ensures fits { OnOk result (IsFitStep step.now) }
 {
     match step {
-        RowStep::Nothing => Ok(()),
         RowStep::One(change) => run(tx, alloc, change),
+        RowStep::CutPast(front, held) => {
+            if *front == *held {
+                return Ok(());
+            }
+            run(tx, alloc, &RowChange::CutEntries(*front))
+        }
+        RowStep::SetChanged(before, numbers) => {
+            if before.is_same(*numbers) {
+                return Ok(());
+            }
+            let set = RowChange::SetNumbers(numbers.view, numbers.normal, numbers.commit);
+            run(tx, alloc, &set)
+        }
         RowStep::AddEntries(front, more) => add_entries(tx, alloc, *front, more),
         RowStep::Settle(log, clients) => settle_all(tx, alloc, log, clients),
     }

@@ -4,12 +4,13 @@ use Rattle.sqlite.specs.Held.{state}
 use Rattle.desk_saved.specs.declared.changes.RowChange.TheVariants as changes
 use Rattle.desk_saved.specs.declared.steps.RowStep.{RowStep}
 use Rattle.desk_saved.specs.declared.steps.RowStep.TheVariants as steps
+use Rattle.desk_saved.specs.AfterRefusal.{ShowsAsBefore}
 use Rattle.desk_saved.specs.Causes.{HasNoTransaction}
 use Rattle.desk_saved.specs.Clients.{clients_of, settle_all}
 use Rattle.desk_saved.specs.File.{client_rows}
 use Rattle.desk_saved.proofs.Causes.{one_cause}
-use Rattle.desk_saved.proofs.Changing.{undone_reported}
 use Rattle.desk_saved.proofs.GrownFiles.{may_grow, saves_grown, not_at_all}
+use Rattle.desk_saved.proofs.Opening.{shown_undone}
 use Rattle.desk_saved.proofs.SaveSteps.{own_is}
 use Rattle.desk_saved.proofs.Settling.{clients_from_none}
 use Rattle.desk_saved.proofs.saved_state.grow_found.Goals as goal
@@ -66,7 +67,7 @@ returns-in_default-clause-refused g c =
           (one_cause c.in_transaction-grown.result (λ is. grind arith) (grown.ended late) grown.open_before);
       may = may_grow g.S.Store before after owner last _ perm given same all _ (tt, (own, tt)) refl
           (tt, (tt, (tt, tt))) c.in_transaction-grown.result grown.done grown.keeps.1 grown.keeps.0;
-      shows =
-          undone_reported g.S.Store given before after c.in_transaction-grown.result same (λ is. grind arith)
-          grown.undone grown.busy;
+      shows = λ late. subst (λ h. ShowsAsBefore (state g.S.Store h) (state g.S.Store after)) same
+          (shown_undone _ _ _ c.in_transaction-grown.result (λ is. grind arith) (grown.undone late) grown.busy
+          (ap (state g.S.Store)));
     })

@@ -5,7 +5,7 @@ use Rattle.desk_saved.specs.File.{entry_row_at, rows_from}
 use Rattle.desk_saved.specs.Transactions.{MakesRows}
 use Rattle.desk_saved.proofs.Reading.{fit_next}
 use Rattle.desk_saved.proofs.SeveralStatements.{one_more}
-use Rattle.desk_saved.proofs.RowChanges.{makes_then, makes_entries, makes_as, makes_none}
+use Rattle.desk_saved.proofs.RowChanges.{makes_then, makes_entries, makes_same}
 use Rattle.desk_saved.proofs.steps.add_entries.Goals as goal
 
 pub loop-entry-preserved : goal.loop-entry-preserved
@@ -45,9 +45,8 @@ loop-entry-init g c = record {
   place = omega arith;
   same = refl;
   fits = tt;
-  makes = makes_as g.S.Store c.args.tx.now.conn.now c.args.tx.now.conn.now (λ _. Unit {0}) (λ rows. rows) _ ⊥
-      (λ rows. ap (λ l. record rows { entries = l }) (sym (append-nil rows.entries)))
-      (makes_none g.S.Store c.args.tx.now.conn.now ⊥);
+  makes = makes_same g.S.Store c.args.tx.now.conn.now (λ _. Unit {0}) _ ⊥
+      (λ rows _. ap (λ l. record rows { entries = l }) (sym (append-nil rows.entries)));
 }
 
 pub returns-clause-makes : goal.returns-clause-makes
