@@ -20,7 +20,7 @@ use Rattle.desk_codec.specs.declared.fault.Lack.TheVariants.{Needs, NoSpelling}
 use Rattle.desk_codec.specs.declared.start.PacketHead.{PacketHead}
 use Rattle.desk_codec.specs.declared.start.PacketStart.{PacketStart}
 
--- whether a packet of this kind has a number behind its view
+-- whether a packet of this kind has a number after its view
 abbrev pub has_first_number : ℕ → Bool
 has_first_number kind = not (kind == START_VIEW_CHANGE)
 

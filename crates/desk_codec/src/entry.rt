@@ -69,8 +69,9 @@ fn is_entry_in(version: u8, entry: &Entry) -> bool
     }
 }
 
-/// The entry that the bytes begin with, where a packet of this version can have it, and how many bytes it has; or
-/// whether more bytes are needed, or no such entry begins so. Memory alone is refused.
+/// The entry that the bytes begin with, where a packet of this version, 1 or 2, can have it, and how many bytes it has,
+/// at most 1,042; or whether more bytes are needed, or no such entry begins so. Err only where memory is refused, which
+/// says nothing of the bytes.
 pub fn front_entry(
     alloc: Global,
     version: u8,

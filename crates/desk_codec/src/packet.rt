@@ -95,7 +95,8 @@ fn needs_two(start: PacketStart, entries: &[Entry]) -> bool
     needs_two_at(start) || has_new_verb(entries)
 }
 
-/// The packet of a start and entries, where its version is the one that they need, and it is within its ranges.
+/// The packet of a start and its entries, as many as the start tells. `None` where they need another version than the
+/// start's, or the packet is out of its ranges.
 pub fn packet_of(start: PacketStart, entries: Vec<Entry>) -> Option<Packet>
     requires made { FitsKind start }
     requires fit { FitsEntries entries.items }

@@ -3,8 +3,8 @@
 /// A peer's connection without a key that brought nothing for so many seconds is closed. Its writer connects anew.
 pub(crate) const PEER_SECONDS: u64 = 10;
 
-/// The same of a connection with a key: so long at most one of a host that is gone keeps a thread, and the node that is
-/// back waits.
+/// The same of a connection with a key, sooner: that of a host that is gone keeps its thread for so long, and a node
+/// that is back waits for it no longer.
 pub(crate) const KEYED_PEER_SECONDS: u64 = 3;
 
 /// A session that brought nothing for so many seconds is ended, and makes room for another.

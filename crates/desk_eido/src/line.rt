@@ -47,8 +47,8 @@ fn document_of(alloc: Global, line: &[u8]) -> Result<Value, Refusal>
     }
 }
 
-/// Copies the JSON object that a line is behind what the arena holds, and answers its node. The line is given without
-/// its newline.
+/// Copies the JSON object of a line into the arena, after what that holds, and answers its node. The line has no
+/// newline.
 ///
 /// It is refused with the first that holds of these: it is longer than 65,536 bytes (2), it is no JSON object (1),
 /// the copy does not fit what is left of the arena (9). Where memory is refused the answer is 40. Where it is refused

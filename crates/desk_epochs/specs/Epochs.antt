@@ -63,7 +63,7 @@ pub record BeginsNext (domain : List ℕ) (ending : Ending) (sizes : ℕ → ℕ
   pub goes : GoesOver node (epoch_log ending.ends ending.most (committed_in domain (sizes (epoch_of old node))
       (old.runs (epoch_of old node)) node)) old new
 
--- A node is told the whole log of its epoch by one that has it behind it, and begins the next.
+-- A node takes the whole log of its epoch from one that is past it, and begins the next.
 pub record CatchesUp (old new : Epochs) : Type 0 where
   pub node : ℕ
   pub teller : ℕ

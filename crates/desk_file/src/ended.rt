@@ -79,6 +79,7 @@ pub struct ClosedFile<D: Disk + Drop> {
 }
 
 /// Closes the database in a file, where it is at hand: the log beside it is copied into it, and no row is touched.
+/// Where that failed `is_whole` is false, and the file is to be opened with its log.
 pub fn close_file<D: Disk + Drop>(connection: Option<Connection<FileStore<D>>>) -> ClosedFile<D>
     ensures closed { MatchOption connection (IsTrue result.is_whole)
         (λ c. (files : _) × (result.files ≡ Some files) × HasClosed c files result.is_whole) }

@@ -7,7 +7,7 @@ ghost use Rattle.desk_types.specs.Lists.{split_at};
 use crate::course::after_prefix;
 use desk_lines::split_at_first;
 
-/// The number that digits write, where it is below 2^64.
+/// The number that decimal digits write, where it is below 2^64. `None` also where there is no digit, or another byte.
 pub fn number_of_digits(digits: &[u8]) -> Option<u64>
     ensures { result ≡ number_of_digits digits.now }
 {

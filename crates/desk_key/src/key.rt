@@ -19,7 +19,7 @@ const KEY_DIGITS: usize = 64;
 /// Why a text is no key.
 #[derive(Clone, Copy, Debug, PartialEq, Eq)]
 pub enum KeyFault {
-    /// It does not begin with 64 hexadecimal digits, or has more behind them than blanks.
+    /// It does not begin with 64 hexadecimal digits, or has more after them than blanks.
     WrongText,
     /// All digits are zeros: HMAC fills a key up by zeros, so that this is the empty key.
     AllZeros,

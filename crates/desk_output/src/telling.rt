@@ -81,7 +81,8 @@ pub fn refusal_status<E: Write>(errors: &mut E, refusal: &Refusal) -> u8
     FAILED
 }
 
-/// As `refusal_status`, and more is told after that line.
+/// As `refusal_status`, with more after that line. Where a write fails, what follows is left out, and the status is the
+/// same.
 pub fn refusal_status_with<E: Write>(errors: &mut E, refusal: &Refusal, more: &[LinePart<'_>]) -> u8
     ensures status { result ≡ FAILED }
     ensures printed { AppendsPrefix (E.contents errors.old) (E.contents errors.new)

@@ -49,7 +49,7 @@ fn write_node<W: Write>(
     }
 }
 
-/// Writes a line for each node of a group, in the order of their numbers: `node 0: up, place 57, 0 after, 1 ms`, or
+/// Writes a line for each node of a group, in the order of their numbers: `node 0: up, place 57, 0 behind, 1 ms`, or
 /// `node 2: down`. After is a node that told a lower place than another.
 ///
 /// Where a write fails, or takes no byte, that is 44, and a prefix of the lines is written.

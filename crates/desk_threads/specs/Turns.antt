@@ -45,7 +45,7 @@ NotesMore sent waiting late waiting_now late_now =
 abbrev pub IsTurnSoFar : List Item → Bool → Type 0
 IsTurnSoFar turn over = OnlyLastEnds turn × (over ≡ false → NoneEnds turn)
 
--- Whatever items a turn had, it has these behind them, and none was taken once it was over.
+-- Whatever items a turn had, it has these after them, and none was taken once it was over.
 abbrev pub AddsToTurn : List (SentItem Item) → Bool → Bool → Type 0
 AddsToTurn sent over over_now =
     (turn : List Item) → IsTurnSoFar turn over → IsTurnSoFar (turn ++ items_in sent) over_now

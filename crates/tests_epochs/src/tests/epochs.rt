@@ -45,7 +45,7 @@ enum Comes {
     PrepareOk(u64, u64),
     /// Node 1 asks for what stands after a place of an epoch.
     Ask(u64, u64),
-    /// Node 2 tells the requests 1 to a number of client 7 behind a place of an epoch.
+    /// Node 2 tells the requests 1 to a number of client 7 after a place of an epoch.
     Tell(u64, u64, u64),
     /// It is time to go over to the next epoch.
     Begin,
