@@ -1,11 +1,11 @@
 -- What the node of an epoch does, and how a node begins the next, as steps of a desk over epochs.
-use Rattle.std.proofs.Common.{◌≡◌, ◌⊎◌, ℕ, suc, ◌+◌, ◌<◌, ◌≤◌, true, false, if◌then◌else◌}
+use Rattle.std.proofs.Common.{◌≡◌, ◌⊎◌, ℕ, suc, ◌+◌, ◌<◌, ◌≤◌, true, false}
 use Rattle.std.proofs.Common.{List, [], ◌∷◌, ◌++◌, length, map, take, refl, sym, ap}
 use Rattle.std.proofs.Common.{◌∙◌}
-use Rattle.std.proofs.Common.{inl, inr, ⊎_elim, subst, arith, eqb}
+use Rattle.std.proofs.Common.{inl, inr, ⊎_elim, subst, arith}
 use Rattle.std.specs.List.{Contains}
 use Rattle.std.proofs.Math.Nat.{mod-lt}
-use Rattle.std.proofs.lemmas.Bool.{eq-eqb, ne_eqb, and_parts}
+use Rattle.std.proofs.lemmas.Bool.{and_parts}
 use Rattle.std.proofs.lemmas.List.{append-nil, length_push}
 use Rattle.desk_types.specs.Group.{IsGroup, IsGroupSize}
 use Rattle.desk_types.specs.declared.command.Entry.{Entry}
@@ -20,11 +20,14 @@ use Rattle.desk_node.specs.NodeValue.{NodeValue, DoesStep, IsSameNode, MakesStep
 use Rattle.desk_node.specs.Rules.{node_step}
 use Rattle.desk_node.specs.State.{State}
 use Rattle.desk_world.specs.Group.{IsNode}
-use Rattle.desk_world.specs.World.{World, first_state, node_of_world}
+use Rattle.desk_world.specs.Requested.{IsRequested}
+use Rattle.desk_world.specs.World.{World, world, first_state, node_of_world}
+use Rattle.desk_world.specs.declared.world_event.WorldEvent.{WorldEvent}
 use Rattle.desk_world.proofs.Packets.{Contains-none, Contains-here, Contains-there, Contains-cases}
 use Rattle.desk_epochs.specs.Epochs.{Epochs, joined_logs, epoch_of, GoesOver, NextEpochs}
 use Rattle.desk_epochs.specs.Histories.{committed_in, has_ended, epoch_log}
 use Rattle.desk_epochs.proofs.Epochs.{joined_push}
+use Rattle.desk_epochs.proofs.StepsAtUp.{with_log, goes_over}
 use Rattle.desk_epoch_node.specs.declared.packet.EpochPacket.{EpochPacket}
 use Rattle.desk_epoch_node.specs.declared.step.EpochStep.{EpochStep}
 use Rattle.desk_epoch_node.specs.declared.step.EpochStep.TheVariants as steps
@@ -93,44 +96,45 @@ in_epoch_stands domain n d epoch (x ∷ xs) f to p c =
     (Contains-cases (in_epoch epoch x) (map (in_epoch epoch) xs) (to, p) c)
 
 -- The node of the epoch does what the world's node does.
-pub own_goes_on : (domain : List ℕ) (n most i : ℕ) (old new : EpochNodes) (d : Epochs) (event : Event)
-    (value : EpochValue) (step : EpochStep) → GroupStands domain n most old d → IsOwn (old.values i) event value step →
-    NodeBecomes n i old value (logs_after (old.logs i) step) (epoch_packets_of (old.values i) (old.logs i) step) new →
-    Leads domain n most i (old.values i).epoch d (step_in domain n i (old.values i).epoch d event).node
-    (step_in domain n i (old.values i).epoch d event).packets → GoesOn domain n most d new
-own_goes_on domain n most i old new d event value (steps.Own made) g o b m =
+pub own_goes_on : (domain : List ℕ) (n most : ℕ) (Came : Entry → Type 0) (i : ℕ) (old new : EpochNodes) (d : Epochs)
+    (event : Event) (value : EpochValue) (step : EpochStep) → GroupStands domain n most Came old d →
+    IsOwn (old.values i) event value step → NodeBecomes n i old value (logs_after (old.logs i) step)
+    (epoch_packets_of (old.values i) (old.logs i) step) new → Leads domain n most Came i (old.values i).epoch d (step_in
+    domain n i (old.values i).epoch d event).node (step_in domain n i (old.values i).epoch d event).packets → GoesOn
+    domain n most Came d new
+own_goes_on domain n most Came i old new d event value (steps.Own made) g o b m =
     let a = g.nodes i in
     let epoch : ℕ = (old.values i).epoch in
     let s : State = node_of_world (epoch_world domain n d epoch) i in
     let w : OwnStands domain n i event s value.node made.packets.items =
     own_stands domain n i (old.values i).node s event value.node made.packets.items made.answers.items a.node o.step
     o.same in
-    let c = leads_change domain n most i epoch d _ _ m in
-    becomes domain n most i epoch old new d value (old.logs i) [] _ _ _ g b o.epoch_is c (sym (append-nil (old.logs i)))
-    w.is (o.epoch_is ∙ a.epoch_is) (o.most_is ∙ a.most_is)
+    let c = leads_change domain n most Came i epoch d _ _ m in
+    becomes domain n most Came i epoch old new d value (old.logs i) [] _ _ _ g b o.epoch_is c
+    (sym (append-nil (old.logs i))) w.is (o.epoch_is ∙ a.epoch_is) (o.most_is ∙ a.most_is)
     (subst (λ (p : PastValue). StandFor (joined_logs (old.logs i)) p) (sym o.past_is) a.stand) a.fresh
     (λ to p x. in_epoch_stands domain n c.later epoch made.packets.items
     (λ y z. c.sent y (inr (subst (λ (ps : List (ℕ × Message)). Contains ps y) w.packets_are z))) to p x)
-own_goes_on domain n most i old new d event value steps.Nothing g o b m = absurd o
-own_goes_on domain n most i old new d event value (steps.Known client number place) g o b m = absurd o
-own_goes_on domain n most i old new d event value (steps.Refused client number refusal) g o b m = absurd o
-own_goes_on domain n most i old new d event value (steps.Deferred entry) g o b m = absurd o
-own_goes_on domain n most i old new d event value (steps.Ask to packet) g o b m = absurd o
-own_goes_on domain n most i old new d event value (steps.Tell to epoch base) g o b m = absurd o
-own_goes_on domain n most i old new d event value (steps.Began log packets) g o b m = absurd o
+own_goes_on domain n most Came i old new d event value steps.Nothing g o b m = absurd o
+own_goes_on domain n most Came i old new d event value (steps.Known client number place) g o b m = absurd o
+own_goes_on domain n most Came i old new d event value (steps.Refused client number refusal) g o b m = absurd o
+own_goes_on domain n most Came i old new d event value (steps.Deferred entry) g o b m = absurd o
+own_goes_on domain n most Came i old new d event value (steps.Ask to packet) g o b m = absurd o
+own_goes_on domain n most Came i old new d event value (steps.Tell to epoch base) g o b m = absurd o
+own_goes_on domain n most Came i old new d event value (steps.Began log packets) g o b m = absurd o
 
 -- The node stays as it is, and what it sends is of what it has behind it.
-pub stays_goes_on : (domain : List ℕ) (n most i : ℕ) (old new : EpochNodes) (d : Epochs) (value : EpochValue)
-    (logs : List (List Entry)) (out : List (ℕ × EpochPacket)) → GroupStands domain n most old d →
-    value ≡ old.values i → logs ≡ old.logs i →
+pub stays_goes_on : (domain : List ℕ) (n most : ℕ) (Came : Entry → Type 0) (i : ℕ) (old new : EpochNodes) (d : Epochs)
+    (value : EpochValue) (logs : List (List Entry)) (out : List (ℕ × EpochPacket)) →
+    GroupStands domain n most Came old d → value ≡ old.values i → logs ≡ old.logs i →
     ((to : ℕ) (p : EpochPacket) → Contains out (to, p) → PacketStands domain n d to p.purpose p.epoch p.packet) →
-    NodeBecomes n i old value logs out new → GoesOn domain n most d new
-stays_goes_on domain n most i old new d value logs out g same logs_same sends b =
+    NodeBecomes n i old value logs out new → GoesOn domain n most Came d new
+stays_goes_on domain n most Came i old new d value logs out g same logs_same sends b =
     let a = g.nodes i in
     let epoch : ℕ = (old.values i).epoch in
-    let c = leads_change domain n most i epoch d _ _ (leads_none domain n most i epoch d) in
+    let c = leads_change domain n most Came i epoch d _ _ (leads_none domain n most Came i epoch d) in
     let at : value.epoch ≡ epoch = ap (λ (v : EpochValue). v.epoch) same in
-    becomes domain n most i epoch old new d value logs [] _ _ out g b at c
+    becomes domain n most Came i epoch old new d value logs [] _ _ out g b at c
     (logs_same ∙ sym (append-nil (old.logs i)))
     (subst (λ (v : EpochValue). IsNode domain n i v.node (node_of_world (epoch_world domain n d epoch) i)) (sym same)
     a.node)
@@ -139,51 +143,36 @@ stays_goes_on domain n most i old new d value logs out g same logs_same sends b 
     (subst (λ (ls : List (List Entry)). StandFor (joined_logs ls) value.past) (sym logs_same)
     (subst (λ (v : EpochValue). StandFor (joined_logs (old.logs i)) v.past) (sym same) a.stand))
     a.fresh
-    (λ to p x. stays_packet domain n most i epoch d [] _ _ c to p.purpose p.epoch p.packet (sends to p x))
+    (λ to p x. stays_packet domain n most Came i epoch d [] _ _ c to p.purpose p.epoch p.packet (sends to p x))
 
 pub no_packets : (domain : List ℕ) (n : ℕ) (d : Epochs) (to : ℕ) (p : EpochPacket) →
     Contains {X = ℕ × EpochPacket} [] (to, p) →
     PacketStands domain n d to p.purpose p.epoch p.packet
 no_packets domain n d to p c = absurd (Contains-none (to, p) c)
 
--- A log more behind node i.
-pub with_log_after : Epochs → ℕ → List Entry → Epochs
-with_log_after d i log = record {
-  runs = d.runs;
-  pasts = λ j. if eqb j i then d.pasts j ++ log ∷ [] else d.pasts j;
-}
+-- what is so of a desk where node i has a log more behind it
 
-pub goes_over : (d : Epochs) (i : ℕ) (log : List Entry) → GoesOver i log d (with_log_after d i log)
-unfolding with_log_after
-goes_over d i log = record {
-  here = ap (λ b. if b then d.pasts i ++ log ∷ [] else d.pasts i) (eq-eqb i i refl);
-  there = λ j ne. ap (λ b. if b then d.pasts j ++ log ∷ [] else d.pasts j) (ne_eqb j i ne);
-  runs_are = λ epoch. refl;
-}
+same_runs : (d : Epochs) (i : ℕ) (log : List Entry) (epoch : ℕ) → (with_log d i log).runs epoch ≡ d.runs epoch
+same_runs d i log epoch = (goes_over d i log).runs_are epoch
 
 same_worlds : (domain : List ℕ) (n : ℕ) (d : Epochs) (i : ℕ) (log : List Entry) (epoch : ℕ) →
-    epoch_world domain n (with_log_after d i log) epoch ≡ epoch_world domain n d epoch
-unfolding with_log_after
-same_worlds domain n d i log epoch = refl
-
-same_runs : (d : Epochs) (i : ℕ) (log : List Entry) (epoch : ℕ) → (with_log_after d i log).runs epoch ≡ d.runs epoch
-unfolding with_log_after
-same_runs d i log epoch = refl
+    epoch_world domain n (with_log d i log) epoch ≡ epoch_world domain n d epoch
+same_worlds domain n d i log epoch = ap (λ (es : List WorldEvent). world domain n es) (same_runs d i log epoch)
 
 -- the desk in which node i has begun the next epoch
-begins_change : (domain : List ℕ) (n most i epoch view : ℕ) (d : Epochs) (log : List Entry) → IsGroup n → i < n →
-    epoch ≡ length (d.pasts i) → view ≤ LAST_VIEW →
-    node_of_world (epoch_world domain n d (epoch + 1)) i ≡ first_state →
-    NextEpochs domain (ending_after most) (λ e. n) d (with_log_after d i log) →
-    Changes domain n most i (epoch + 1) d (log ∷ []) (suspected domain i n view) (view_requests i n 0 view)
-begins_change domain n most i epoch view d log group small at within fresh next =
-    let after : Epochs = with_log_after d i log in
+begins_change : (domain : List ℕ) (n most : ℕ) (Came : Entry → Type 0) (i epoch view : ℕ) (d : Epochs)
+    (log : List Entry) → IsGroup n → i < n → epoch ≡ length (d.pasts i) → view ≤ LAST_VIEW →
+    node_of_world (epoch_world domain n d (epoch + 1)) i ≡ first_state → NextEpochs domain (ending_after most)
+    (λ e. n) d (with_log d i log) → Changes domain n most Came i (epoch + 1) d (log ∷ [])
+    (suspected domain i n view) (view_requests i n 0 view)
+begins_change domain n most Came i epoch view d log group small at within fresh next =
+    let after : Epochs = with_log d i log in
     let over : GoesOver i log d after = goes_over d i log in
     let count : epoch + 1 ≡ epoch_of after i =
     ap (λ k. k + 1) at ∙ (sym (length_push (d.pasts i) log)
     ∙ ap (λ (ls : List (List Entry)). length ls) (sym over.here)) in
-    let m : Leads domain n most i (epoch + 1) after (suspected domain i n view) (view_requests i n 0 view) =
-    leads_suspicions domain n most i (epoch + 1) after group small count
+    let m : Leads domain n most Came i (epoch + 1) after (suspected domain i n view) (view_requests i n 0 view) =
+    leads_suspicions domain n most Came i (epoch + 1) after group small count
     (ap (λ (w : World). node_of_world w i) (same_worlds domain n d i log (epoch + 1)) ∙ fresh) view within in
     record {
       count = suc m.count;
@@ -198,6 +187,8 @@ begins_change domain n most i epoch view d log group small at within fresh next 
           (λ a. inl (subst (λ (w : World). Contains w.packets x) (sym (same_worlds domain n d i log (epoch + 1))) a))
           (λ a. inr a)
           c);
+      came = λ before. m.came (λ k e asked. before k e
+          (subst (λ (es : List WorldEvent). IsRequested es e) (same_runs d i log k) asked));
     }
 
 -- a first node in a view stands for one that suspected so often
@@ -218,24 +209,24 @@ next_stands domain n i view node h is =
     }))
 
 -- Node i is a first node of the next epoch in a view, after a log that the desk lets it have behind it.
-first_goes_on : (domain : List ℕ) (n most i view : ℕ) (old new : EpochNodes) (d : Epochs) (log : List Entry)
-    (value : EpochValue) (packets : List (ℕ × Message)) → IsGroup n → view ≤ LAST_VIEW →
-    GroupStands domain n most old d →
-    value.epoch ≡ (old.values i).epoch + 1 → StandFor (joined_logs (old.logs i) ++ log) value.past →
-    value.most ≡ (old.values i).most →
+first_goes_on : (domain : List ℕ) (n most : ℕ) (Came : Entry → Type 0) (i view : ℕ) (old new : EpochNodes) (d : Epochs)
+    (log : List Entry) (value : EpochValue) (packets : List (ℕ × Message)) → IsGroup n → view ≤ LAST_VIEW →
+    GroupStands domain n most Came old d → value.epoch ≡ (old.values i).epoch + 1 →
+    StandFor (joined_logs (old.logs i) ++ log) value.past → value.most ≡ (old.values i).most →
     value.node ≡ record { domain = domain; id = i; n = n; saved = in_view view initial_saved; heard = silence n } →
     ((x : ℕ × Message) → Contains packets x → Contains (view_requests i n 0 view) x) →
-    NextEpochs domain (ending_after most) (λ e. n) d (with_log_after d i log) →
+    NextEpochs domain (ending_after most) (λ e. n) d (with_log d i log) →
     NodeBecomes n i old value (old.logs i ++ log ∷ []) (map (in_epoch ((old.values i).epoch + 1)) packets) new →
-    GoesOn domain n most d new
-first_goes_on domain n most i view old new d log value packets group within g at stand same_most is sent next b =
+    GoesOn domain n most Came d new
+first_goes_on domain n most Came i view old new d log value packets group within g at stand same_most is sent next b =
     let a = g.nodes i in
     let epoch : ℕ = (old.values i).epoch in
-    let c : Changes domain n most i (epoch + 1) d (log ∷ []) (suspected domain i n view) (view_requests i n 0 view) =
-    begins_change domain n most i epoch view d log group b.is_node
+    let c : Changes domain n most Came i (epoch + 1) d (log ∷ []) (suspected domain i n view) (view_requests i n 0
+    view) =
+    begins_change domain n most Came i epoch view d log group b.is_node
     (a.epoch_is ∙ ap (λ (ls : List (List Entry)). length ls) (sym a.pasts_are)) within
     (a.fresh (epoch + 1) (omega arith)) next in
-    becomes domain n most i (epoch + 1) old new d value (old.logs i ++ log ∷ []) (log ∷ []) _ _ _ g b at c refl
+    becomes domain n most Came i (epoch + 1) old new d value (old.logs i ++ log ∷ []) (log ∷ []) _ _ _ g b at c refl
     (next_stands domain n i view value.node within is)
     (at ∙ (ap (λ k. k + 1) a.epoch_is ∙ sym (length_push (old.logs i) log)))
     (same_most ∙ a.most_is)
@@ -253,13 +244,13 @@ first_node_is domain n i view node p q r =
     ∙ ap (λ (x : ℕ). node_in_view domain i x view) r)
 
 -- Node i begins the next epoch after a log that the desk lets it have behind it.
-pub begun_goes_on : (domain : List ℕ) (n most i : ℕ) (old new : EpochNodes) (d : Epochs) (log : List Entry)
-    (value : EpochValue) (packets : List (ℕ × Message)) → IsGroupSize n → GroupStands domain n most old d →
-    BeginsAfter (joined_logs (old.logs i)) log (old.values i) value packets →
-    NextEpochs domain (ending_after most) (λ e. n) d (with_log_after d i log) →
+pub begun_goes_on : (domain : List ℕ) (n most : ℕ) (Came : Entry → Type 0) (i : ℕ) (old new : EpochNodes) (d : Epochs)
+    (log : List Entry) (value : EpochValue) (packets : List (ℕ × Message)) → IsGroupSize n →
+    GroupStands domain n most Came old d → BeginsAfter (joined_logs (old.logs i)) log (old.values i) value packets →
+    NextEpochs domain (ending_after most) (λ e. n) d (with_log d i log) →
     NodeBecomes n i old value (old.logs i ++ log ∷ []) (map (in_epoch ((old.values i).epoch + 1)) packets) new →
-    GoesOn domain n most d new
-begun_goes_on domain n most i old new d log value packets size g begun next b =
+    GoesOn domain n most Came d new
+begun_goes_on domain n most Came i old new d log value packets size g begun next b =
     let a = g.nodes i in
     let node : NodeValue = (old.values i).node in
     let view : ℕ = next_view node in
@@ -268,20 +259,20 @@ begun_goes_on domain n most i old new d log value packets size g begun next b =
     let sent : packets ≡ view_requests i n 0 view =
     begun.packets_are ∙ (ap (λ (x : ℕ). view_requests x node.n 0 view) a.node.id_is
     ∙ ap (λ (x : ℕ). view_requests i x 0 view) a.node.n_is) in
-    first_goes_on domain n most i view old new d log value packets size.0 within g begun.epoch_is begun.past_is
+    first_goes_on domain n most Came i view old new d log value packets size.0 within g begun.epoch_is begun.past_is
     begun.most_is
     (begun.node_is ∙ first_node_is domain n i view node a.node.domain_is a.node.id_is a.node.n_is)
     (λ y z. subst (λ (ps : List (ℕ × Message)). Contains ps y) sent z) next b
 
 -- The same, but node i ends before it has saved anything there, and is started again.
-pub again_goes_on : (domain : List ℕ) (n most i : ℕ) (old new : EpochNodes) (d : Epochs) (log : List Entry)
-    (value : EpochValue) (packets : List (ℕ × Message)) → IsGroupSize n → GroupStands domain n most old d →
-    BeginsAfter (joined_logs (old.logs i)) log (old.values i) value packets →
-    NextEpochs domain (ending_after most) (λ e. n) d (with_log_after d i log) →
-    NodeBecomes n i old (started_again value) (old.logs i ++ log ∷ []) [] new → GoesOn domain n most d new
-again_goes_on domain n most i old new d log value packets size g begun next b =
+pub again_goes_on : (domain : List ℕ) (n most : ℕ) (Came : Entry → Type 0) (i : ℕ) (old new : EpochNodes) (d : Epochs)
+    (log : List Entry) (value : EpochValue) (packets : List (ℕ × Message)) → IsGroupSize n →
+    GroupStands domain n most Came old d → BeginsAfter (joined_logs (old.logs i)) log (old.values i) value packets →
+    NextEpochs domain (ending_after most) (λ e. n) d (with_log d i log) →
+    NodeBecomes n i old (started_again value) (old.logs i ++ log ∷ []) [] new → GoesOn domain n most Came d new
+again_goes_on domain n most Came i old new d log value packets size g begun next b =
     let a = g.nodes i in
-    first_goes_on domain n most i 0 old new d log (started_again value) [] size.0 (omega arith) g begun.epoch_is
+    first_goes_on domain n most Came i 0 old new d log (started_again value) [] size.0 (omega arith) g begun.epoch_is
     begun.past_is begun.most_is
     (first_node_is domain n i 0 value.node
     (ap (λ (x : NodeValue). x.domain) begun.node_is ∙ a.node.domain_is)
@@ -290,10 +281,10 @@ again_goes_on domain n most i old new d log value packets size g begun next b =
     (λ y z. absurd (Contains-none y z)) next b
 
 -- A node that has committed the end of its epoch may begin the next.
-pub due_next : (domain : List ℕ) (n most i : ℕ) (old : EpochNodes) (d : Epochs) → GroupStands domain n most old d →
-    is_due (old.values i) ≡ true →
-    NextEpochs domain (ending_after most) (λ e. n) d (with_log_after d i (committed_cut (old.values i)))
-due_next domain n most i old d g due =
+pub due_next : (domain : List ℕ) (n most : ℕ) (Came : Entry → Type 0) (i : ℕ) (old : EpochNodes) (d : Epochs) →
+    GroupStands domain n most Came old d → is_due (old.values i) ≡ true → NextEpochs domain (ending_after most)
+    (λ e. n) d (with_log d i (committed_cut (old.values i)))
+due_next domain n most Came i old d g due =
     let a = g.nodes i in
     let e : EpochValue = old.values i in
     let cut : List Entry = committed_cut e in
@@ -313,5 +304,5 @@ due_next domain n most i old d g due =
     inr (inl (record {
       node = i;
       over = ended;
-      goes = subst (λ (es : List Entry). GoesOver i es d (with_log_after d i cut)) cut_is (goes_over d i cut);
+      goes = subst (λ (es : List Entry). GoesOver i es d (with_log d i cut)) cut_is (goes_over d i cut);
     }))

@@ -1,18 +1,20 @@
 -- What nodes have committed of all epochs is what they have committed in the desk for which they stand.
-use Rattle.std.proofs.Common.{◌≡◌, ◌⊎◌, ◌≤◌, ℕ, suc, ◌+◌, false, List, [], ◌∷◌, ◌++◌, length, take, refl, sym, ap}
-use Rattle.std.proofs.Common.{◌∙◌, subst, arith}
-use Rattle.std.proofs.lemmas.List.{append_assoc}
+use Rattle.std.proofs.Common.{◌≡◌, ◌⊎◌, ◌≤◌, ℕ, ◌+◌, false, List, [], ◌++◌, length, take, refl, sym, ap}
+use Rattle.std.proofs.Common.{◌∙◌, Some, subst, arith}
+use Rattle.std.specs.List.{Contains}
 use Rattle.desk_types.specs.declared.command.Entry.{Entry}
 use Rattle.desk_types.specs.declared.reply.Reply.{Reply}
-use Rattle.desk_log.specs.Entries.{IsLogPrefix, IsRising}
+use Rattle.desk_log.specs.Entries.{IsLogPrefix, IsRising, entry_at}
 use Rattle.desk_board.specs.Laws.{names}
 use Rattle.desk_board.specs.Log.{board_of}
 use Rattle.desk_log.specs.SavedValue.{SavedValue, committed_entries}
-use Rattle.desk_world.specs.declared.world_event.WorldEvent.{WorldEvent}
 use Rattle.desk_world.specs.Agreement.{IsReplyAt}
 use Rattle.desk_epochs.specs.Epochs.{Epochs, first_epochs, joined_logs, committed_history}
 use Rattle.desk_epochs.specs.Histories.{epoch_log, committed_in, history}
+use Rattle.desk_epochs.proofs.DeskNeverStuck.{history_is}
 use Rattle.desk_epochs.proofs.Epochs.{epochs_agree, epochs_rise}
+use Rattle.desk_world.specs.Requested.{IsRequested}
+use Rattle.desk_epochs.proofs.RequestedHistories.{entries_requested}
 use Rattle.desk_epochs.proofs.EpochBoards.{epoch_boards_agree, epoch_identifiers_stay, epoch_replies_agree}
 use Rattle.desk_board.proofs.LogBoards.{board_of-consistent}
 use Rattle.desk_epoch_node.specs.EpochValue.{EpochValue, committed_cut}
@@ -20,26 +22,15 @@ use Rattle.desk_epoch_node.proofs.EpochEnds.{ends_by_count}
 use Rattle.desk_epoch_group.specs.Agreement.{AreOfEpochs, IsOfEpochs, NodesMakeEpochs, ending_after}
 use Rattle.desk_epoch_group.specs.Agreement.{NodeHistoriesAgree, NodeHistoriesRise, NodeBoardsAgree}
 use Rattle.desk_epoch_group.specs.Agreement.{NodeBoardsConsistent, NodeIdentifiersStay, NodeRepliesAgree}
-use Rattle.desk_epoch_group.specs.Group.{EpochNodes, first_epoch_nodes, history_of}
+use Rattle.desk_epoch_group.specs.Agreement.{NodeEntriesRequested}
+use Rattle.desk_epoch_node.specs.declared.event.EpochEvent.TheVariants.{Request}
+use Rattle.desk_epoch_group.specs.Group.{EpochNodes, Meets, first_epoch_nodes, history_of}
 use Rattle.desk_epoch_group.proofs.Standing.{GroupStands, GoesOn, NodeStands}
 use Rattle.desk_epoch_group.proofs.GroupEpochs.{first_stands, run_goes_on}
 
--- past logs, and then the cut of what is committed of the next epoch
-history_joined : (domain : List ℕ) (n most : ℕ) (runs : ℕ → List WorldEvent) (epoch : ℕ) (past : List (List Entry))
-    (i : ℕ) → history domain (ending_after most) (λ e. n) runs epoch past i
-    ≡ joined_logs past ++ epoch_log (λ e. false) most (committed_in domain n (runs (epoch + length past)) i)
-history_joined domain n most runs epoch [] i =
-    let here : epoch ≡ epoch + 0 = omega arith in
-    ap (λ k. epoch_log (λ e. false) most (committed_in domain n (runs k) i)) here
-history_joined domain n most runs epoch (p ∷ ps) i =
-    let here : suc epoch + length ps ≡ epoch + suc (length ps) = omega arith in
-    ap (λ (es : List Entry). p ++ es) (history_joined domain n most runs (suc epoch) ps i)
-    ∙ (sym (append_assoc p (joined_logs ps) _)
-    ∙ ap (λ k. (p ++ joined_logs ps) ++ epoch_log (λ e. false) most (committed_in domain n (runs k) i)) here)
-
-pub stands_of : (domain : List ℕ) (n most : ℕ) (g : EpochNodes) (d : Epochs) → GroupStands domain n most g d →
-    IsOfEpochs domain n most g d
-stands_of domain n most g d s i =
+pub stands_of : (domain : List ℕ) (n most : ℕ) (Came : Entry → Type 0) (g : EpochNodes) (d : Epochs) →
+    GroupStands domain n most Came g d → IsOfEpochs domain n most g d
+stands_of domain n most Came g d s i =
     let a : NodeStands domain n most i (g.values i) (g.logs i) d = s.nodes i in
     let value : EpochValue = g.values i in
     let past : List Entry = joined_logs (g.logs i) in
@@ -51,16 +42,20 @@ stands_of domain n most g d s i =
     let at : value.epoch ≡ 0 + length (g.logs i) = omega (arith, a.epoch_is) in
     ap (λ (es : List Entry). past ++ es) cut
     ∙ (ap (λ k. past ++ epoch_log (λ e. false) most (committed_in domain n (d.runs k) i)) at
-    ∙ (sym (history_joined domain n most d.runs 0 (g.logs i) i)
+    ∙ (sym (history_is domain (ending_after most) (λ e. n) d.runs 0 (g.logs i) i)
     ∙ ap (λ (ls : List (List Entry)). history domain (ending_after most) (λ e. n) d.runs 0 ls i) (sym a.pasts_are)))
+
+-- Nothing is said of requests.
+abbrev AnyCame : Entry → Type 0
+AnyCame e = Unit {0}
 
 pub nodes_make_epochs : NodesMakeEpochs
 nodes_make_epochs domain n most first more early late size l m =
-    let one : GoesOn domain n most first_epochs early =
-    run_goes_on domain n most (first_epoch_nodes domain n most) early first_epochs first size
-    (first_stands domain n most) l in
-    let other : GoesOn domain n most one.later late =
-    run_goes_on domain n most early late one.later more size one.stands m in
+    let one : GoesOn domain n most AnyCame first_epochs early =
+    run_goes_on domain n most AnyCame (first_epoch_nodes domain n most) early first_epochs first size (λ i e c. tt)
+    (first_stands domain n most AnyCame) l in
+    let other : GoesOn domain n most AnyCame one.later late =
+    run_goes_on domain n most AnyCame early late one.later more size (λ i e c. tt) one.stands m in
     record {
       before = one.count;
       more = other.count;
@@ -68,8 +63,8 @@ nodes_make_epochs domain n most first more early late size l m =
       later = other.later;
       lead = one.lead;
       lead_on = other.lead;
-      is_early = stands_of domain n most early one.later one.stands;
-      is_late = stands_of domain n most late other.later other.stands;
+      is_early = stands_of domain n most AnyCame early one.later one.stands;
+      is_late = stands_of domain n most AnyCame late other.later other.stands;
     }
 
 -- what holds of two histories of the desk holds of those of the nodes
@@ -87,7 +82,8 @@ pub histories_agree : NodeHistoriesAgree
 histories_agree domain n most first more early late i j size l m =
     let a = nodes_make_epochs domain n most first more early late size l m in
     of_two (λ dom one other. IsLogPrefix one other ⊎ IsLogPrefix other one) domain n most early late i j a
-    (epochs_agree domain (ending_after most) (λ e. n) a.before a.more a.desk a.later i j (λ e. size.0) a.lead a.lead_on)
+    (epochs_agree domain (ending_after most) (λ e. n) a.before a.more a.desk a.later i j (λ e. size.0) a.lead
+    a.lead_on)
 
 pub node_boards_agree : NodeBoardsAgree
 node_boards_agree domain n most first more early late i j size l m =
@@ -125,3 +121,16 @@ histories_rise domain n most acts g i size l =
 pub boards_consistent : NodeBoardsConsistent
 boards_consistent domain n most acts g i size l k lower short =
     board_of-consistent domain (take k (history_of g i)) lower short
+
+-- Every request of the desk for which the nodes stand came to one of them.
+pub entries_are_requested : NodeEntriesRequested
+entries_are_requested domain n most acts g i place e size l there =
+    let one : GoesOn domain n most (λ x. (j : ℕ) × Contains acts (Meets j (Request x))) first_epochs g =
+    run_goes_on domain n most (λ x. (j : ℕ) × Contains acts (Meets j (Request x))) (first_epoch_nodes domain n most) g
+    first_epochs acts size (λ j x c. (j, c))
+    (first_stands domain n most (λ x. (j : ℕ) × Contains acts (Meets j (Request x)))) l in
+    let asked : (epoch : ℕ) × IsRequested (one.later.runs epoch) e =
+    entries_requested domain (ending_after most) (λ k. n) one.count one.later i place e (λ k. size.0) one.lead
+    (subst (λ (es : List Entry). entry_at es place ≡ Some e)
+    (stands_of domain n most (λ x. (j : ℕ) × Contains acts (Meets j (Request x))) g one.later one.stands i) there) in
+    one.stands.came asked.0 e asked.1

@@ -3,7 +3,7 @@ use Rattle.std.proofs.Common.{◌≡◌, ◌≢◌, ◌⊎◌, ℕ, zero, suc, �
 use Rattle.std.proofs.Common.{length, Some, refl, sym, ap, ◌∙◌, inl, inr, ⊎_elim, subst, arith, rules, eqb, ltb}
 use Rattle.std.proofs.Common.{get_or}
 use Rattle.std.specs.List.{slice_get, Contains}
-use Rattle.std.proofs.lemmas.Bool.{eq-eqb, ne_eqb}
+use Rattle.std.proofs.lemmas.Bool.{cases_eq, eq-eqb, ne_eqb}
 use Rattle.std.proofs.lemmas.List.{append-nil, get_or-set_same, get_or-set_other}
 use Rattle.std.proofs.lemmas.List.Elements.{Contains-append_left, Contains-append_right, Contains-append_cases}
 use Rattle.desk_types.specs.Group.{IsGroup}
@@ -23,7 +23,8 @@ use Rattle.desk_world.specs.declared.world_event.WorldEvent.TheVariants.{Request
 use Rattle.desk_world.specs.World.{World, world, world_after_step, world_after_event, packet_at, world_after}
 use Rattle.desk_world.specs.World.{first_state, first_world, node_of_world}
 use Rattle.desk_world.proofs.Agree.{world_invariant}
-use Rattle.desk_world.proofs.Packets.{Contains-none}
+use Rattle.desk_world.specs.Requested.{IsRequested}
+use Rattle.desk_world.proofs.Packets.{Contains-none, Contains-one}
 use Rattle.desk_world.proofs.WorldInvariants.{world_from-append}
 use Rattle.desk_epochs.specs.Epochs.{Epochs, IsNewFor, epoch_of, joined_logs}
 use Rattle.desk_epochs.proofs.Epochs.{leads_on}
@@ -35,10 +36,15 @@ use Rattle.desk_epoch_group.specs.Agreement.{Lead, ending_after}
 abbrev pub epoch_world : List ℕ → ℕ → Epochs → ℕ → World
 epoch_world domain n d epoch = world domain n (d.runs epoch)
 
+-- Each request that was made in an epoch is one that came.
+abbrev pub OnlyCame : (Entry → Type 0) → Epochs → Type 0
+OnlyCame Came d = (epoch : ℕ) (e : Entry) → IsRequested (d.runs epoch) e → Came e
+
 -- Steps lead from a desk to one in which node i of an epoch is in this state, and these packets were sent in the epoch.
--- No other node has changed, no other epoch, and nothing that nodes have behind them.
-pub record Leads (domain : List ℕ) (n most i epoch : ℕ) (d : Epochs) (s : State) (packets : List (ℕ × Message)) :
-    Type 0 where
+-- No other node has changed, no other epoch, and nothing that nodes have behind them. Where only requests that came
+-- were made before, so it is there.
+pub record Leads (domain : List ℕ) (n most : ℕ) (Came : Entry → Type 0) (i epoch : ℕ) (d : Epochs) (s : State)
+    (packets : List (ℕ × Message)) : Type 0 where
   pub count : ℕ
   pub later : Epochs
   pub lead : Lead domain n most count d later
@@ -49,10 +55,11 @@ pub record Leads (domain : List ℕ) (n most i epoch : ℕ) (d : Epochs) (s : St
       node_of_world (epoch_world domain n later epoch) j ≡ node_of_world (epoch_world domain n d epoch) j
   pub sent : (x : ℕ × Message) → Contains (epoch_world domain n d epoch).packets x ⊎ Contains packets x →
       Contains (epoch_world domain n later epoch).packets x
+  pub came : OnlyCame Came d → OnlyCame Came later
 
-pub leads_none : (domain : List ℕ) (n most i epoch : ℕ) (d : Epochs) →
-    Leads domain n most i epoch d (node_of_world (epoch_world domain n d epoch) i) []
-leads_none domain n most i epoch d = record {
+pub leads_none : (domain : List ℕ) (n most : ℕ) (Came : Entry → Type 0) (i epoch : ℕ) (d : Epochs) →
+    Leads domain n most Came i epoch d (node_of_world (epoch_world domain n d epoch) i) []
+leads_none domain n most Came i epoch d = record {
   count = 0;
   later = d;
   lead = refl;
@@ -61,12 +68,13 @@ leads_none domain n most i epoch d = record {
   here = refl;
   there = λ j ne. refl;
   sent = λ x c. ⊎_elim (λ a. a) (λ a. absurd (Contains-none x a)) c;
+  came = λ before. before;
 }
 
-pub leads_then : (domain : List ℕ) (n most i epoch : ℕ) (d : Epochs) (s t : State) (ps qs : List (ℕ × Message)) →
-    (m : Leads domain n most i epoch d s ps) → Leads domain n most i epoch m.later t qs →
-    Leads domain n most i epoch d t (ps ++ qs)
-leads_then domain n most i epoch d s t ps qs m k = record {
+pub leads_then : (domain : List ℕ) (n most : ℕ) (Came : Entry → Type 0) (i epoch : ℕ) (d : Epochs) (s t : State)
+    (ps qs : List (ℕ × Message)) → (m : Leads domain n most Came i epoch d s ps) →
+    Leads domain n most Came i epoch m.later t qs → Leads domain n most Came i epoch d t (ps ++ qs)
+leads_then domain n most Came i epoch d s t ps qs m k = record {
   count = m.count + k.count;
   later = k.later;
   lead = leads_on domain (ending_after most) (λ e. n) m.count k.count d m.later k.later m.lead k.lead;
@@ -81,13 +89,14 @@ leads_then domain n most i epoch d s t ps qs m k = record {
       (λ b. k.sent x (inr b))
       (Contains-append_cases ps qs x a))
       c;
+  came = λ before. k.came (m.came before);
 }
 
 -- the same, of some of the packets, and of an equal state
-pub leads_as : (domain : List ℕ) (n most i epoch : ℕ) (d : Epochs) (s t : State) (ps qs : List (ℕ × Message)) →
-    s ≡ t → ((x : ℕ × Message) → Contains qs x → Contains ps x) → Leads domain n most i epoch d s ps →
-    Leads domain n most i epoch d t qs
-leads_as domain n most i epoch d s t ps qs same some m = record {
+pub leads_as : (domain : List ℕ) (n most : ℕ) (Came : Entry → Type 0) (i epoch : ℕ) (d : Epochs) (s t : State)
+    (ps qs : List (ℕ × Message)) → s ≡ t → ((x : ℕ × Message) → Contains qs x → Contains ps x) →
+    Leads domain n most Came i epoch d s ps → Leads domain n most Came i epoch d t qs
+leads_as domain n most Came i epoch d s t ps qs same some m = record {
   count = m.count;
   later = m.later;
   lead = m.lead;
@@ -96,6 +105,7 @@ leads_as domain n most i epoch d s t ps qs same some m = record {
   here = m.here ∙ same;
   there = m.there;
   sent = λ x c. m.sent x (⊎_elim (λ a. inl a) (λ a. inr (some x a)) c);
+  came = m.came;
 }
 
 -- one event more in an epoch
@@ -133,13 +143,32 @@ comes_at domain n i w event within = rw (get_some w.nodes i first_state within) 
 abbrev pub step_in : List ℕ → ℕ → ℕ → ℕ → Epochs → Event → NodeStep
 step_in domain n i epoch d event = node_step domain i n (node_of_world (epoch_world domain n d epoch) i) event
 
+-- One event more is no other request than one that came.
+event_came : (Came : Entry → Type 0) (d : Epochs) (epoch : ℕ) (event : WorldEvent) →
+    ((i : ℕ) (e : Entry) → event ≡ Request i e → Came e) → OnlyCame Came d → OnlyCame Came (with_event d epoch event)
+event_came Came d epoch event new before k e asked = by_epoch (cases_eq k epoch)
+  where
+    by_epoch : (k ≡ epoch) ⊎ (k ≢ epoch) → Came e
+    by_epoch (inl same) =
+        let run : (with_event d epoch event).runs k ≡ d.runs epoch ++ event ∷ [] =
+        ap (λ j. (with_event d epoch event).runs j) same ∙ same_run d epoch event in
+        ⊎_elim
+        (λ old. before epoch e (record { node = asked.node; asked = old }))
+        (λ last. new asked.node e (Contains-one event (Request asked.node e) last))
+        (Contains-append_cases (d.runs epoch) (event ∷ []) (Request asked.node e)
+        (subst (λ (es : List WorldEvent). Contains es (Request asked.node e)) run asked.asked))
+    by_epoch (inr ne) =
+        before k e
+        (subst (λ (es : List WorldEvent). IsRequested es e) (other_run d epoch event k ne) asked)
+
 -- An event that comes to node i, which is in the epoch.
-pub leads_event : (domain : List ℕ) (n most i epoch : ℕ) (d : Epochs) (e : WorldEvent) (event : Event) → IsGroup n →
-    i < n → epoch ≡ epoch_of d i → IsNewFor (joined_logs (d.pasts i)) e →
-    world_after domain n (epoch_world domain n d epoch) e
-    ≡ world_after_event domain n (epoch_world domain n d epoch) i event →
-    Leads domain n most i epoch d (step_in domain n i epoch d event).node (step_in domain n i epoch d event).packets
-leads_event domain n most i epoch d e event group small at new comes =
+pub leads_event : (domain : List ℕ) (n most : ℕ) (Came : Entry → Type 0) (i epoch : ℕ) (d : Epochs) (e : WorldEvent)
+    (event : Event) → IsGroup n → i < n → epoch ≡ epoch_of d i → IsNewFor (joined_logs (d.pasts i)) e →
+    ((j : ℕ) (x : Entry) → e ≡ Request j x → Came x) → world_after domain n (epoch_world domain n d epoch) e ≡
+    world_after_event domain n (epoch_world domain n d epoch) i event →
+    Leads domain n most Came i epoch d (step_in domain n i epoch d event).node (step_in domain n i epoch d
+    event).packets
+leads_event domain n most Came i epoch d e event group small at new may comes =
     let w : World = epoch_world domain n d epoch in
     let later : Epochs = with_event d epoch e in
     let step : NodeStep = node_step domain i n (node_of_world w i) event in
@@ -175,48 +204,78 @@ leads_event domain n most i epoch d e event group small at new comes =
           (λ a. Contains-append_left w.packets step.packets x a)
           (λ a. Contains-append_right w.packets step.packets x a)
           c);
+      came = λ before. event_came Came d epoch e may before;
     }
+
+-- tests that tell events apart
+
+IsNoRequest : WorldEvent → Type 0
+IsNoRequest (Request i entry) = ⊥
+IsNoRequest (Deliver k) = Unit {0}
+IsNoRequest (Resend i) = Unit {0}
+IsNoRequest (Suspect i) = Unit {0}
+IsNoRequest (Restart i) = Unit {0}
+
+requested_or : Entry → WorldEvent → Entry
+requested_or other (Request i entry) = entry
+requested_or other (Deliver k) = other
+requested_or other (Resend i) = other
+requested_or other (Suspect i) = other
+requested_or other (Restart i) = other
+
+not_request : (event : WorldEvent) (j : ℕ) (x : Entry) → IsNoRequest event → event ≡ Request j x → ⊥
+unfolding IsNoRequest
+not_request event j x quiet same = subst IsNoRequest same quiet
+
+same_entry : (i j : ℕ) (e x : Entry) → Request i e ≡ Request j x → e ≡ x
+unfolding requested_or
+same_entry i j e x same = ap (requested_or e) same
 
 -- the events that come to a node, as events of its epoch's world
 
-pub leads_request : (domain : List ℕ) (n most i epoch : ℕ) (d : Epochs) (entry : Entry) → IsGroup n → i < n →
-    epoch ≡ epoch_of d i → IsNewFor (joined_logs (d.pasts i)) (Request i entry) →
-    Leads domain n most i epoch d (step_in domain n i epoch d (events.Request entry)).node
-    (step_in domain n i epoch d (events.Request entry)).packets
+pub leads_request : (domain : List ℕ) (n most : ℕ) (Came : Entry → Type 0) (i epoch : ℕ) (d : Epochs) (entry : Entry) →
+    IsGroup n → i < n → epoch ≡ epoch_of d i → IsNewFor (joined_logs (d.pasts i)) (Request i entry) → Came entry →
+    Leads domain n most Came i epoch d (step_in domain n i epoch d (events.Request entry)).node (step_in domain n i
+    epoch d (events.Request entry)).packets
 unfolding world_after
-leads_request domain n most i epoch d entry group small at new =
-    leads_event domain n most i epoch d (Request i entry) (events.Request entry) group small at new refl
+leads_request domain n most Came i epoch d entry group small at new came =
+    leads_event domain n most Came i epoch d (Request i entry) (events.Request entry) group small at new
+    (λ j x same. subst Came (same_entry i j entry x same) came) refl
 
-pub leads_packet : (domain : List ℕ) (n most i epoch : ℕ) (d : Epochs) (p : Message) → IsGroup n → i < n →
-    epoch ≡ epoch_of d i → Contains (epoch_world domain n d epoch).packets (i, p) →
-    Leads domain n most i epoch d (step_in domain n i epoch d (events.Packet p)).node
-    (step_in domain n i epoch d (events.Packet p)).packets
-unfolding world_after
-leads_packet domain n most i epoch d p group small at c =
+pub leads_packet : (domain : List ℕ) (n most : ℕ) (Came : Entry → Type 0) (i epoch : ℕ) (d : Epochs) (p : Message) →
+    IsGroup n → i < n → epoch ≡ epoch_of d i → Contains (epoch_world domain n d epoch).packets (i, p) →
+    Leads domain n most Came i epoch d (step_in domain n i epoch d (events.Packet p)).node (step_in domain n i epoch d
+    (events.Packet p)).packets
+unfolding world_after IsNoRequest
+leads_packet domain n most Came i epoch d p group small at c =
     let w : World = epoch_world domain n d epoch in
     let there : packet_at w.packets (suc c.0) ≡ Some (i, p) = get_some w.packets c.0 (i, p) c.1 ∙ ap Some c.2 in
-    leads_event domain n most i epoch d (Deliver (suc c.0)) (events.Packet p) group small at tt (rw there refl)
+    leads_event domain n most Came i epoch d (Deliver (suc c.0)) (events.Packet p) group small at tt
+    (λ j x same. absurd (not_request (Deliver (suc c.0)) j x tt same)) (rw there refl)
 
-pub leads_resend : (domain : List ℕ) (n most i epoch : ℕ) (d : Epochs) → IsGroup n → i < n → epoch ≡ epoch_of d i →
-    Leads domain n most i epoch d (step_in domain n i epoch d events.Resend).node
+pub leads_resend : (domain : List ℕ) (n most : ℕ) (Came : Entry → Type 0) (i epoch : ℕ) (d : Epochs) → IsGroup n →
+    i < n → epoch ≡ epoch_of d i → Leads domain n most Came i epoch d (step_in domain n i epoch d events.Resend).node
     (step_in domain n i epoch d events.Resend).packets
-unfolding world_after
-leads_resend domain n most i epoch d group small at =
-    leads_event domain n most i epoch d (Resend i) events.Resend group small at tt refl
+unfolding world_after IsNoRequest
+leads_resend domain n most Came i epoch d group small at =
+    leads_event domain n most Came i epoch d (Resend i) events.Resend group small at tt
+    (λ j x same. absurd (not_request (Resend i) j x tt same)) refl
 
-pub leads_suspect : (domain : List ℕ) (n most i epoch : ℕ) (d : Epochs) → IsGroup n → i < n → epoch ≡ epoch_of d i →
-    Leads domain n most i epoch d (step_in domain n i epoch d events.Suspect).node
+pub leads_suspect : (domain : List ℕ) (n most : ℕ) (Came : Entry → Type 0) (i epoch : ℕ) (d : Epochs) → IsGroup n →
+    i < n → epoch ≡ epoch_of d i → Leads domain n most Came i epoch d (step_in domain n i epoch d events.Suspect).node
     (step_in domain n i epoch d events.Suspect).packets
-unfolding world_after
-leads_suspect domain n most i epoch d group small at =
-    leads_event domain n most i epoch d (Suspect i) events.Suspect group small at tt refl
+unfolding world_after IsNoRequest
+leads_suspect domain n most Came i epoch d group small at =
+    leads_event domain n most Came i epoch d (Suspect i) events.Suspect group small at tt
+    (λ j x same. absurd (not_request (Suspect i) j x tt same)) refl
 
-pub leads_restart : (domain : List ℕ) (n most i epoch : ℕ) (d : Epochs) → IsGroup n → i < n → epoch ≡ epoch_of d i →
-    Leads domain n most i epoch d (step_in domain n i epoch d events.Restart).node
+pub leads_restart : (domain : List ℕ) (n most : ℕ) (Came : Entry → Type 0) (i epoch : ℕ) (d : Epochs) → IsGroup n →
+    i < n → epoch ≡ epoch_of d i → Leads domain n most Came i epoch d (step_in domain n i epoch d events.Restart).node
     (step_in domain n i epoch d events.Restart).packets
-unfolding world_after
-leads_restart domain n most i epoch d group small at =
-    leads_event domain n most i epoch d (Restart i) events.Restart group small at tt refl
+unfolding world_after IsNoRequest
+leads_restart domain n most Came i epoch d group small at =
+    leads_event domain n most Came i epoch d (Restart i) events.Restart group small at tt
+    (λ j x same. absurd (not_request (Restart i) j x tt same)) refl
 
 -- what a first node sends that suspects once more
 suspect_sends : (domain : List ℕ) (i n k : ℕ) → suc k ≤ LAST_VIEW →
@@ -234,24 +293,24 @@ suspect_sends domain i n k h =
     ∙ ap (λ b. if b then to_others i n (StartViewChange i (suc k)) else []) (more ∙ sym first)))
 
 -- A first node suspects its primary so many times.
-pub leads_suspicions : (domain : List ℕ) (n most i epoch : ℕ) (d : Epochs) → IsGroup n → i < n → epoch ≡ epoch_of d i →
-    node_of_world (epoch_world domain n d epoch) i ≡ first_state → (k : ℕ) → k ≤ LAST_VIEW →
-    Leads domain n most i epoch d (suspected domain i n k) (view_requests i n 0 k)
-leads_suspicions domain n most i epoch d group small at fresh zero h =
-    leads_as domain n most i epoch d _ first_state [] (view_requests i n 0 0) fresh (λ x c. c)
-    (leads_none domain n most i epoch d)
-leads_suspicions domain n most i epoch d group small at fresh (suc k) h =
+pub leads_suspicions : (domain : List ℕ) (n most : ℕ) (Came : Entry → Type 0) (i epoch : ℕ) (d : Epochs) → IsGroup n →
+    i < n → epoch ≡ epoch_of d i → node_of_world (epoch_world domain n d epoch) i ≡ first_state → (k : ℕ) →
+    k ≤ LAST_VIEW → Leads domain n most Came i epoch d (suspected domain i n k) (view_requests i n 0 k)
+leads_suspicions domain n most Came i epoch d group small at fresh zero h =
+    leads_as domain n most Came i epoch d _ first_state [] (view_requests i n 0 0) fresh (λ x c. c)
+    (leads_none domain n most Came i epoch d)
+leads_suspicions domain n most Came i epoch d group small at fresh (suc k) h =
     let below : k ≤ LAST_VIEW = omega (arith, h) in
-    let m : Leads domain n most i epoch d (suspected domain i n k) (view_requests i n 0 k) =
-    leads_suspicions domain n most i epoch d group small at fresh k below in
-    let again = leads_suspect domain n most i epoch m.later group small
+    let m : Leads domain n most Came i epoch d (suspected domain i n k) (view_requests i n 0 k) =
+    leads_suspicions domain n most Came i epoch d group small at fresh k below in
+    let again = leads_suspect domain n most Came i epoch m.later group small
     (at ∙ ap (λ (ls : List (List Entry)). length ls) (sym (m.pasts_are i))) in
     let sends : (step_in domain n i epoch m.later events.Suspect).packets ≡ view_requests i n 0 (suc k) =
     ap (λ (s : State). (node_step domain i n s events.Suspect).packets)
     (m.here ∙ suspicions_lead domain i n k below)
     ∙ suspect_sends domain i n k h in
-    leads_as domain n most i epoch d _ (suspected domain i n (suc k)) _ (view_requests i n 0 (suc k))
+    leads_as domain n most Came i epoch d _ (suspected domain i n (suc k)) _ (view_requests i n 0 (suc k))
     (ap (λ (s : State). (node_step domain i n s events.Suspect).node) m.here)
     (λ x c. Contains-append_right (view_requests i n 0 k) _ x
     (subst (λ (ps : List (ℕ × Message)). Contains ps x) (sym sends) c))
-    (leads_then domain n most i epoch d _ _ _ _ m again)
+    (leads_then domain n most Came i epoch d _ _ _ _ m again)

@@ -1,10 +1,8 @@
 -- A request that a node over epochs puts last in its log is new beside what the node has behind it.
-use Rattle.std.proofs.Common.{◌≡◌, ◌⊎◌, ◌<◌, ◌≤◌, ℕ, suc, Bool, true, false, cond, not, ◌&&◌, List, [], ◌∷◌, ◌++◌}
+use Rattle.std.proofs.Common.{◌≡◌, ◌⊎◌, ◌<◌, ℕ, suc, Bool, true, false, cond, not, ◌&&◌, List, [], ◌∷◌, ◌++◌}
 use Rattle.std.proofs.Common.{Option, Some, None}
 use Rattle.std.proofs.Common.{refl, sym, ap, ◌∙◌, inl, inr, ⊎_elim, subst, arith, rules, eqb, ltb, leb, is_some}
 use Rattle.std.specs.Option.{option_map_or}
-use Rattle.std.proofs.lemmas.Bool.{cases_lt}
-use Rattle.std.proofs.lemmas.Option.{same_Some}
 use Rattle.std.proofs.lemmas.List.{append-nil}
 use Rattle.desk_types.specs.Group.{IsGroup}
 use Rattle.desk_types.specs.declared.command.Entry.{Entry}
@@ -19,7 +17,7 @@ use Rattle.desk_log.specs.Entries.{IsLogPrefix, IsRising, entry_at, latest, numb
 use Rattle.desk_log.specs.Laws.{IsLatest}
 use Rattle.desk_log.specs.SavedValue.{SavedValue}
 use Rattle.desk_log.proofs.Latest.{latest_is_last, latest_is_none}
-use Rattle.desk_log.proofs.Rising.{later_is_greater, rising_prefix}
+use Rattle.desk_log.proofs.Rising.{rising_prefix}
 use Rattle.desk_normal.specs.Rules.{on_request, admitted_request, retry_request}
 use Rattle.desk_node.specs.declared.event.Event.TheVariants as events
 use Rattle.desk_node.specs.Rules.{node_step}
@@ -30,6 +28,7 @@ use Rattle.desk_world.specs.Requested.{IsRequested}
 use Rattle.desk_epochs.specs.Epochs.{Epochs, IsNewFor, committed_history, first_epochs, joined_logs}
 use Rattle.desk_epochs.specs.Histories.{AreNew, history}
 use Rattle.desk_epochs.specs.OneLog.{new_where, admission_by, epoch_admission}
+use Rattle.desk_epochs.proofs.DeskNeverStuck.{below_latest}
 use Rattle.desk_epochs.proofs.Epochs.{epochs_rise}
 use Rattle.desk_epochs.proofs.OneLog.{epochs_are_one_log}
 use Rattle.desk_epoch_node.specs.declared.deed.Deed.{Deed}
@@ -139,30 +138,6 @@ IsNotOwn (Keep entry) = Unit {0}
 IsNotOwn (Ask to) = Unit {0}
 IsNotOwn (Tell to epoch base) = Unit {0}
 IsNotOwn (Take base entries) = Unit {0}
-
--- in a log that rises no number of a client is greater than that of its latest entry
-below_latest : (past : List Entry) (client place k : ℕ) (f : Entry) → IsRising past →
-    latest client past ≡ Some place → entry_at past k ≡ Some f → f.client ≡ client → f.number ≤ number_at past place
-below_latest past client place k f rising is there same = by_place (cases_lt k place)
-  where
-    l : IsLatest client past place
-    l = latest_is_last client past place is
-
-    number : number_at past place ≡ l.entry.number
-    number = ap (λ o. option_map_or (λ (x : Entry). x.number) o 0) l.there
-
-    by_place : (k < place) ⊎ (place ≤ k) → f.number ≤ number_at past place
-    by_place (inl before) =
-        omega (
-          arith,
-          number,
-          later_is_greater past k place f l.entry rising before there l.there
-              (same ∙ sym l.client_is),
-        )
-    by_place (inr after) =
-        let at : k ≡ place = omega (arith, after, l.last k f there same) in
-        let one : f ≡ l.entry = same_Some f l.entry (sym there ∙ (ap (entry_at past) at ∙ l.there)) in
-        omega (arith, number, ap (λ (x : Entry). x.number) one)
 
 -- what a log admits has a greater number than its client's latest entry there
 admitted_number : (log : List Entry) (number place : ℕ) → admission_after log number (Some place) ≡ Append →

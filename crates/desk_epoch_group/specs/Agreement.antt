@@ -1,17 +1,18 @@
 -- What holds in every group of nodes over epochs, whatever happens in it.
-use Rattle.std.specs.Prelude.{◌≡◌, ◌⊎◌, ◌<◌, ◌≤◌, ℕ, false, List, ◌++◌, length, take}
+use Rattle.std.specs.Prelude.{◌≡◌, ◌⊎◌, ◌<◌, ◌≤◌, ℕ, false, List, ◌++◌, length, take, Some, Contains}
 use Rattle.desk_types.specs.Group.{IsGroupSize}
 use Rattle.desk_types.specs.Identifier.{IsLowerDomain}
 use Rattle.desk_types.specs.declared.command.Entry.{Entry}
 use Rattle.desk_types.specs.declared.reply.Reply.{Reply}
-use Rattle.desk_log.specs.Entries.{IsLogPrefix, IsRising}
+use Rattle.desk_log.specs.Entries.{IsLogPrefix, IsRising, entry_at}
 use Rattle.desk_board.specs.Consistency.{IsConsistent}
 use Rattle.desk_board.specs.Laws.{names, own_places}
 use Rattle.desk_board.specs.Log.{board_of}
 use Rattle.desk_world.specs.Agreement.{IsReplyAt}
 use Rattle.desk_epochs.specs.Epochs.{Epochs, first_epochs, StepsLead, committed_history}
 use Rattle.desk_epochs.specs.Histories.{Ending}
-use Rattle.desk_epoch_group.specs.Group.{EpochNodes, EpochAct, ActsLead, first_epoch_nodes, history_of}
+use Rattle.desk_epoch_node.specs.declared.event.EpochEvent.TheVariants.{Request}
+use Rattle.desk_epoch_group.specs.Group.{EpochNodes, EpochAct, Meets, ActsLead, first_epoch_nodes, history_of}
 
 -- Epochs end after so many entries, and by no entry of itself.
 abbrev pub ending_after : ℕ → Ending
@@ -81,3 +82,10 @@ NodeHistoriesRise = OfNodes (λ domain log. IsRising log)
 abbrev pub NodeBoardsConsistent : Type 0
 NodeBoardsConsistent = OfNodes (λ domain log. (k : ℕ) → IsLowerDomain domain → length (take k log) < own_places →
     IsConsistent (board_of domain (take k log)))
+
+-- Each entry of it came to some node as a request.
+abbrev pub NodeEntriesRequested : Type 0
+NodeEntriesRequested = (domain : List ℕ) (n most : ℕ) (acts : List EpochAct) (g : EpochNodes) (i place : ℕ)
+    (e : Entry) → IsGroupSize n → ActsLead n (first_epoch_nodes domain n most) acts g →
+    entry_at (history_of g i) place ≡ Some e →
+    (node : ℕ) × Contains acts (Meets node (Request e))

@@ -24,12 +24,13 @@ pub record EpochNodes : Type 0 where
   pub logs : ℕ → List (List Entry)
   pub sent : List (ℕ × EpochPacket)
 
--- What happens: something comes to a node; a node begins the next epoch where it is due; or it does so, but ends before
--- it has saved or sent anything there, and is started again.
+-- What happens: something comes to a node; a node begins the next epoch where it is due; or it begins it in one of
+-- these ways, but ends before it has saved or sent anything there, and is started again.
 pub data EpochAct : Type 0 where
   Meets : ℕ → EpochEvent → EpochAct
   Begins : ℕ → EpochAct
   BeginsAndEnds : ℕ → EpochAct
+  MeetsAndEnds : ℕ → EpochEvent → EpochAct
 
 -- node i of n at first, where epochs end after so many entries
 abbrev pub first_value : List ℕ → ℕ → ℕ → ℕ → EpochValue
@@ -97,6 +98,11 @@ abbrev pub MakesEpochStep : EpochValue → EpochEvent → EpochValue → EpochSt
 MakesEpochStep old event new step = (past : List Entry) → StandFor past old.past →
     DoesDeed past (deed past old event) old new step
 
+-- By the step the node begins the next epoch.
+abbrev pub BeginsByStep : EpochStep → Type 0
+BeginsByStep (steps.Began log packets) = Unit {0}
+BeginsByStep step = ⊥
+
 -- what `EpochNode::begin_next` promises, where it begins an epoch
 pub record BeginsWhereDue (old new : EpochValue) (packets : List (ℕ × Message)) : Type 0 where
   pub due : is_due old ≡ true
@@ -134,6 +140,10 @@ ActLeads n old (Begins i) new =
 ActLeads n old (BeginsAndEnds i) new =
     (value : EpochValue) × (packets : List (ℕ × Message)) × BeginsWhereDue (old.values i) value packets
     × NodeBecomes n i old (started_again value) (old.logs i ++ committed_cut (old.values i) ∷ []) [] new
+ActLeads n old (MeetsAndEnds i event) new =
+    (value : EpochValue) × (step : EpochStep) × WasSentBefore old.sent i event
+    × MakesEpochStep (old.values i) event value step × BeginsByStep step
+    × NodeBecomes n i old (started_again value) (logs_after (old.logs i) step) [] new
 
 -- So do acts, one after the other.
 abbrev pub ActsLead : ℕ → EpochNodes → List EpochAct → EpochNodes → Type 0

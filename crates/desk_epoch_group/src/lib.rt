@@ -3,7 +3,7 @@
 
 ghost use Rattle.desk_epoch_group.specs.Agreement.{NodesMakeEpochs, NodeHistoriesAgree, NodeHistoriesRise};
 ghost use Rattle.desk_epoch_group.specs.Agreement.{NodeBoardsAgree, NodeBoardsConsistent, NodeIdentifiersStay};
-ghost use Rattle.desk_epoch_group.specs.Agreement.{NodeRepliesAgree};
+ghost use Rattle.desk_epoch_group.specs.Agreement.{NodeRepliesAgree, NodeEntriesRequested};
 
 /// What is true of every group of three or five nodes over epochs, whatever comes to them in whatever order, as long as
 /// each packet that comes to a node was sent to it before: packets may be lost, repeated and reordered, and nodes
@@ -24,4 +24,6 @@ pub fn group()
     ensures names { NodeIdentifiersStay }
     // Any two replies to one numbered command are one reply.
     ensures replies { NodeRepliesAgree }
+    // Each entry that a node has committed came to some node as a request.
+    ensures requested { NodeEntriesRequested }
 {}

@@ -98,7 +98,7 @@ past_push domain ending sizes runs epoch (p ∷ ps) log a w =
           (subst (λ k. IsWholeEpoch domain ending (sizes k) (runs k) log) here w),
     )
 
-past_prefix : (domain : List ℕ) (ending : Ending) (sizes : ℕ → ℕ) (runs : ℕ → List WorldEvent) (epoch : ℕ)
+pub past_prefix : (domain : List ℕ) (ending : Ending) (sizes : ℕ → ℕ) (runs : ℕ → List WorldEvent) (epoch : ℕ)
     (ps qs : List (List Entry)) → ArePast domain ending sizes runs epoch (ps ++ qs) →
     ArePast domain ending sizes runs epoch ps
 past_prefix domain ending sizes runs epoch [] qs a = tt

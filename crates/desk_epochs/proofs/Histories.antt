@@ -46,7 +46,7 @@ over_same ends (suc k) (x ∷ xs) (y ∷ ys) f o =
     ap (λ es. x ∷ es) (over_rest ends k (ends x) xs ys o (over_same ends k xs ys f.1))
     ∙ rw f.0 refl
 
-prefix_after : (log xs ys : List Entry) → IsLogPrefix xs ys → IsLogPrefix (log ++ xs) (log ++ ys)
+pub prefix_after : (log xs ys : List Entry) → IsLogPrefix xs ys → IsLogPrefix (log ++ xs) (log ++ ys)
 prefix_after [] xs ys f = f
 prefix_after (e ∷ es) xs ys f = (refl, prefix_after es xs ys f)
 

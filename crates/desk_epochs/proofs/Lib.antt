@@ -1,6 +1,10 @@
 pub mod Histories
 pub mod RisingHistories
+pub mod RequestedHistories
 pub mod NeverStuck
 pub mod Epochs
 pub mod OneLog
 pub mod EpochBoards
+pub mod StepsAtUp
+pub mod DeskNeverStuck
+pub mod Sample

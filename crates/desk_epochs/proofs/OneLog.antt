@@ -57,7 +57,7 @@ latest_append client xs ys =
     latest_append_from 1 client xs ys
     ∙ ap (λ o. option_or o (latest client xs)) (latest_shift (length xs) 1 client ys)
 
-get_after : (xs ys : List Entry) (k : ℕ) → slice_get (xs ++ ys) (length xs + k) ≡ slice_get ys k
+pub get_after : (xs ys : List Entry) (k : ℕ) → slice_get (xs ++ ys) (length xs + k) ≡ slice_get ys k
 get_after [] ys k = let same : 0 + k ≡ k = omega arith in ap (slice_get ys) same
 get_after (x ∷ xs) ys k =
     let same : suc (length xs) + k ≡ suc (length xs + k) = omega arith in

@@ -46,7 +46,7 @@ cut_rest_prefix : (t : Bool) (xs ys : List Entry) → IsLogPrefix xs ys → IsLo
 cut_rest_prefix true xs ys f = tt
 cut_rest_prefix false xs ys f = f
 
-cut_is_prefix : (ends : Entry → Bool) (k : ℕ) (xs : List Entry) → IsLogPrefix (epoch_log ends k xs) xs
+pub cut_is_prefix : (ends : Entry → Bool) (k : ℕ) (xs : List Entry) → IsLogPrefix (epoch_log ends k xs) xs
 cut_is_prefix ends zero xs = tt
 cut_is_prefix ends (suc k) [] = tt
 cut_is_prefix ends (suc k) (x ∷ xs) =

@@ -8,6 +8,7 @@ use Rattle.desk_board.specs.Consistency.{IsConsistent}
 use Rattle.desk_board.specs.Laws.{names, own_places}
 use Rattle.desk_board.specs.Log.{board_of}
 use Rattle.desk_world.specs.Agreement.{IsReplyAt}
+use Rattle.desk_world.specs.Requested.{IsRequested}
 use Rattle.desk_log.specs.Entries.{IsLogPrefix, IsRising, entry_at}
 use Rattle.desk_world.specs.declared.world_event.WorldEvent.{WorldEvent}
 use Rattle.desk_world.specs.declared.world_event.WorldEvent.TheVariants.{Request, Deliver, Resend, Suspect, Restart}
@@ -101,6 +102,13 @@ abbrev pub EpochsRise : Type 0
 EpochsRise = (domain : List ℕ) (ending : Ending) (sizes : ℕ → ℕ) (count : ℕ) (d : Epochs) (i : ℕ) →
     ((epoch : ℕ) → IsGroup (sizes epoch)) → StepsLead domain ending sizes count first_epochs d →
     IsRising (committed_history domain ending sizes d i)
+
+-- Each entry of it was requested, in some epoch.
+abbrev pub EpochEntriesRequested : Type 0
+EpochEntriesRequested = (domain : List ℕ) (ending : Ending) (sizes : ℕ → ℕ) (count : ℕ) (d : Epochs) (i place : ℕ)
+    (e : Entry) → ((epoch : ℕ) → IsGroup (sizes epoch)) → StepsLead domain ending sizes count first_epochs d →
+    entry_at (committed_history domain ending sizes d i) place ≡ Some e →
+    (epoch : ℕ) × IsRequested (d.runs epoch) e
 
 -- Of a later desk, or the same: what holds of what one node has committed and what another has.
 abbrev pub OfTwoEpochs : (List ℕ → List Entry → List Entry → Type 0) → Type 0

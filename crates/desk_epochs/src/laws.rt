@@ -1,9 +1,9 @@
 //! What is true of every desk over epochs.
 
 ghost use Rattle.desk_epochs.specs.Epochs.{EpochsAgree, EpochsRise, EpochBoardsAgree, EpochBoardsConsistent};
-ghost use Rattle.desk_epochs.specs.Epochs.{EpochIdentifiersStay, EpochRepliesAgree};
+ghost use Rattle.desk_epochs.specs.Epochs.{EpochIdentifiersStay, EpochRepliesAgree, EpochEntriesRequested};
 ghost use Rattle.desk_epochs.specs.Histories.{HistoriesAgree, HistoryBoardsAgree, HistoriesRise, HistoryRepliesKept};
-ghost use Rattle.desk_epochs.specs.NeverStuck.{EpochNeverStuck};
+ghost use Rattle.desk_epochs.specs.NeverStuck.{EpochNeverStuck, EpochsNeverStuck};
 ghost use Rattle.desk_epochs.specs.OneLog.{EpochsAreOneLog};
 
 /// What is true over every list of steps, in whatever epochs the nodes of a desk are: events of an epoch with requests
@@ -22,6 +22,8 @@ pub fn agreement()
     ensures names { EpochIdentifiersStay }
     // Any two replies to one numbered command are one reply.
     ensures replies { EpochRepliesAgree }
+    // Each entry that a node has committed was requested.
+    ensures requested { EpochEntriesRequested }
 {}
 
 /// What is true of all that nodes have committed in whole epochs and the one that they are in, whatever happens in each
@@ -37,12 +39,15 @@ pub fn histories()
     ensures rows { HistoryRepliesKept }
 {}
 
-/// An epoch is never stuck. Whatever happened to its nodes, and whichever of them are up, as long as more are than may
-/// fail: there are further events at these nodes, without a restart, after which a request with a new number is
-/// committed and answered, or the end of a full log is committed. It says that there are such events, not that they
-/// happen. It does nothing: its clause is the fact.
+/// A desk over epochs is never stuck. Whatever happened to its nodes, and whichever of them are up, as long as more are
+/// than may fail: steps follow at these nodes alone, without a restart, after which a new request is committed and
+/// answered. Where a log is full its end is committed, and the next epoch begins. It says that there are such steps,
+/// not that they happen. It does nothing: its clauses are the facts.
 pub fn never_stuck()
+    // Events in one epoch serve a request with a new number, or commit the epoch's end.
     ensures goes_on { EpochNeverStuck }
+    // Steps over epochs serve a request with a new number, whatever logs are full.
+    ensures over_epochs { EpochsNeverStuck }
 {}
 
 /// To its clients an epoch is the rest of one log: what becomes of a request beside the client's latest entry in the

@@ -184,7 +184,7 @@ collect_one : (domain : List ℕ) (n : ℕ) (up : ℕ → Bool) (base : World) (
     AreReady n up base v t →
     Reach domain n up t (HasCollected n up base v ((node_of_world t (primary n v)).received ++ offer_of base v m ∷ []))
 collect_one domain n up base v group ahead old m t from on goes ready =
-    record { later = r.later; goes = r.goes; holds = record { result = by_result collects.result } }
+    record { later = r.later; goes = r.goes; quiet = r.quiet; holds = record { result = by_result collects.result } }
   where
     i : ℕ
     i = primary n v
@@ -312,6 +312,7 @@ gather_next domain n up base v group ahead old m t from on goes p = by_result p.
         record {
           later = r.later;
           goes = r.goes;
+          quiet = r.quiet;
           holds = record {
             result = ⊎_elim
                 (λ c. inl (c.1, λ j l on_j. rw c.2 (more j l on_j w.1)))
@@ -364,6 +365,7 @@ start_last domain n up base v group ahead old t goes p = by_result p.result
         record {
           later = r.later;
           goes = r.goes;
+          quiet = r.quiet;
           holds = ⊎_elim (λ c. absurd (false≢true (sym c.0 ∙ may))) (λ b. b) r.holds.result;
         }
 

@@ -27,7 +27,7 @@ use Rattle.desk_world.proofs.Invariant.{GroupInvariant}
 use Rattle.desk_world.proofs.Packets.{Contains-here, Contains-there}
 use Rattle.desk_world.proofs.RaisedViews.{IsAhead, others_there}
 use Rattle.desk_world.proofs.LaterWorlds.{not_down, Reach, ChangesNode, reach_here, reach_all, reach_packet}
-use Rattle.desk_world.proofs.LaterWorlds.{reach_request}
+use Rattle.desk_world.proofs.LaterWorlds.{reach_request, ReachAsking}
 use Rattle.desk_world.proofs.WorldInvariants.{WorldInvariant}
 use Rattle.desk_world.proofs.ChosenPrefixes.{backed_prefix}
 use Rattle.desk_world.proofs.ViewLog.{announced_log}
@@ -116,6 +116,7 @@ adopt_one domain n up base v l c group ahead old k t small on ne inv p =
     record {
       later = r.later;
       goes = r.goes;
+      quiet = r.quiet;
       holds = record {
         saved = ap (λ (x : State). x.saved) (r.holds.there i (λ q. ne (sym q))) ∙ p.saved;
         adopted = λ j lt low on_j other. ⊎_elim
@@ -208,18 +209,19 @@ request_appends n i v c l e lead admitted =
 pub append_entry : (domain : List ℕ) (n : ℕ) (up : ℕ → Bool) (base : World) (v : ℕ) (l : List Entry) (c : ℕ)
     (e : Entry) → IsGroup n → IsAhead n up base v → (t : World) → WorldInvariant domain n t →
     admission l e.client e.number ≡ Append → HaveAdopted n up base v l c n t →
-    Reach domain n up t (HaveAcknowledged n up v l e c 0)
+    ReachAsking domain n up e t (HaveAcknowledged n up v l e c 0)
 append_entry domain n up base v l c e group ahead t inv admitted p =
     let i : ℕ = primary n v in
     let small : i < n = mod-lt v (omega (arith, group.least)) in
     let own : NodeInvariant n (messages t.packets) i (normal_in v l c) = rw p.saved at (inv.preserved.nodes i) in
     let change : Change = on_request i n (normal_in v l c) e in
     let appends : Appends n i v c l e change = request_appends n i v c l e refl admitted in
-    let r : Reach domain n up t (ChangesNode domain t i change) =
+    let r : ReachAsking domain n up e t (ChangesNode domain t i change) =
     reach_request domain n up t group inv i small ahead.primary_up e (normal_in v l c) p.saved in
     record {
       later = r.later;
       goes = r.goes;
+      asks = r.asks;
       holds = record {
         saved = r.holds.saved ∙ appends.saved;
         within = own.within_log;
@@ -266,6 +268,7 @@ acknowledge_one domain n up v l e c group k t small on ne inv p =
     record {
       later = r.later;
       goes = r.goes;
+      quiet = r.quiet;
       holds = record {
         saved = ap (λ (x : State). x.saved) (r.holds.there i (λ q. ne (sym q))) ∙ p.saved;
         within = p.within;

@@ -24,7 +24,8 @@ use Rattle.desk_world.proofs.HeardCounts.{tally_some-below}
 use Rattle.desk_world.proofs.Following.{HaveAdopted, HaveAcknowledged, adopt_all, append_entry, acknowledge_all}
 use Rattle.desk_world.proofs.Offering.{HaveOffered, offer_all}
 use Rattle.desk_world.proofs.RaisedViews.{IsAhead, AreRaised, raise_all}
-use Rattle.desk_world.proofs.LaterWorlds.{LeadsTo, Reach, goes_on, reach_then}
+use Rattle.desk_world.proofs.LaterWorlds.{LeadsTo, Reach, ReachAsking, goes_on, reach_here, reach_then}
+use Rattle.desk_world.proofs.LaterWorlds.{reach_asking, asking_then}
 use Rattle.desk_world.proofs.WorldInvariants.{WorldInvariant, world_from-append}
 use Rattle.desk_world.proofs.Serving.{serve, IsServedIn}
 
@@ -36,7 +37,7 @@ room_admits log room =
     false_from_ne_true _ (λ t. omega (arith, room, leb-true LOG_ENTRIES (length log) t)) in
     rw off refl
 
-new_is_admitted : (log : List Entry) (e : Entry) → length log < LOG_ENTRIES → IsNewNumber log e →
+pub new_is_admitted : (log : List Entry) (e : Entry) → length log < LOG_ENTRIES → IsNewNumber log e →
     admission log e.client e.number ≡ Append
 new_is_admitted log e room new = by_place (latest e.client log) refl
   where
@@ -54,17 +55,17 @@ new_is_admitted log e room new = by_place (latest e.client log) refl
 
 -- the greatest view of nodes
 
-abbrev top_view : List State → ℕ
+abbrev pub top_view : List State → ℕ
 top_view [] = 0
 top_view (x ∷ xs) = max x.saved.view (top_view xs)
 
-top_is_greatest : (xs : List State) (j : ℕ) → (get_or xs j first_state).saved.view ≤ top_view xs
+pub top_is_greatest : (xs : List State) (j : ℕ) → (get_or xs j first_state).saved.view ≤ top_view xs
 top_is_greatest [] j = omega arith
 top_is_greatest (x ∷ xs) zero = omega arith
 top_is_greatest (x ∷ xs) (suc j) = omega (arith, top_is_greatest xs j)
 
-top_within : (xs : List State) (bound : ℕ) → ((j : ℕ) → j < length xs → (get_or xs j first_state).saved.view ≤ bound) →
-    top_view xs ≤ bound
+pub top_within : (xs : List State) (bound : ℕ) →
+    ((j : ℕ) → j < length xs → (get_or xs j first_state).saved.view ≤ bound) → top_view xs ≤ bound
 top_within [] bound h = omega arith
 top_within (x ∷ xs) bound h =
     omega (arith, h 0 (omega arith), top_within xs bound (λ j l. h (suc j) (omega (arith, l))))
@@ -75,7 +76,7 @@ pub record IsLater (n top i v : ℕ) : Type 0 where
   pub near : v ≤ top + n
   pub primary_is : primary n v ≡ i
 
-later_view : (n top i : ℕ) → i < n → (v : ℕ) × IsLater n top i v
+pub later_view : (n top i : ℕ) → i < n → (v : ℕ) × IsLater n top i v
 later_view n top i small = by_order (cases_lt (top % n) i)
   where
     q : ℕ
@@ -122,48 +123,56 @@ next_view domain n up base entry group inv can =
       },
     )
 
-reach_served : (domain : List ℕ) (n : ℕ) (up : ℕ → Bool) (base : World) (entry : Entry) (v : ℕ) → IsGroup n →
-    WorldInvariant domain n base → CanServe n up base entry → IsAhead n up base v →
-    Reach domain n up base (λ x. IsServed n up base x entry)
-reach_served domain n up base entry v group inv can ahead =
+-- A view starts with the log of a node that is up.
+pub reach_started : (domain : List ℕ) (n : ℕ) (up : ℕ → Bool) (base : World) (v : ℕ) → IsGroup n →
+    WorldInvariant domain n base → IsAhead n up base v → Reach domain n up base (HasStarted n up base v)
+reach_started domain n up base v group inv ahead =
     let raised : Reach domain n up base (AreRaised n up base v n) = raise_all domain n up base v group ahead inv in
     let offered : Reach domain n up base (HaveOffered n up base v n) =
     reach_then domain n up base (AreRaised n up base v n) (HaveOffered n up base v n) raised
     (λ u g p. offer_all domain n up base v group ahead inv u g.preserved p) in
-    let started : Reach domain n up base (HasStarted n up base v) =
     reach_then domain n up base (HaveOffered n up base v n) (HasStarted n up base v) offered
-    (λ u g p. start_view domain n up base v group ahead inv u g p) in
-    let l : List Entry = (node_of_world base started.holds.node).saved.log in
-    let c : ℕ = started.holds.commit in
-    let admitted : admission l entry.client entry.number ≡ Append =
-    new_is_admitted l entry (can.logs started.holds.node started.holds.is_node started.holds.is_up)
-    (can.number started.holds.node started.holds.is_node started.holds.is_up) in
-    let t : World = started.later in
-    let adopted : Reach domain n up t (HaveAdopted n up base v l c n) =
-    adopt_all domain n up base v group ahead inv t started.goes.preserved started.holds in
-    let appended : Reach domain n up t (HaveAcknowledged n up v l entry c 0) =
-    reach_then domain n up t (HaveAdopted n up base v l c n) (HaveAcknowledged n up v l entry c 0) adopted
-    (λ u g p. append_entry domain n up base v l c entry group ahead u g.preserved admitted p) in
-    let acknowledged : Reach domain n up t (HaveAcknowledged n up v l entry c n) =
-    reach_then domain n up t (HaveAcknowledged n up v l entry c 0) (HaveAcknowledged n up v l entry c n) appended
-    (λ u g p. acknowledge_all domain n up v l entry c group u g.preserved p) in
-    let goes : LeadsTo domain n up base acknowledged.later =
-    goes_on domain n up base t acknowledged.later started.goes acknowledged.goes in
-    let last : Reach domain n up acknowledged.later (IsServedIn n up v l entry base) =
-    serve domain n up v l entry c base group ahead acknowledged.later goes acknowledged.holds.within
-    acknowledged.holds.saved (λ j low on ne. acknowledged.holds.acknowledged j low low on ne) in
-    record {
-      later = last.later;
-      goes = goes_on domain n up base acknowledged.later last.later goes last.goes;
-      holds = last.holds.served;
-    }
+    (λ u g p. start_view domain n up base v group ahead inv u g p)
+
+-- A request that this log admits is served there.
+pub serve_started : (domain : List ℕ) (n : ℕ) (up : ℕ → Bool) (base : World) (entry : Entry) (v : ℕ) → IsGroup n →
+    WorldInvariant domain n base → IsAhead n up base v → (t : World) → LeadsTo domain n up base t →
+    (b : HasStarted n up base v t) →
+    admission (node_of_world base b.node).saved.log entry.client entry.number ≡ Append →
+    ReachAsking domain n up entry t (IsServedIn n up v (node_of_world base b.node).saved.log entry base)
+serve_started domain n up base entry v group inv ahead t g b admitted =
+    let l : List Entry = (node_of_world base b.node).saved.log in
+    let c : ℕ = b.commit in
+    let acknowledged : ReachAsking domain n up entry t (HaveAcknowledged n up v l entry c n) =
+    asking_then domain n up entry t (HaveAcknowledged n up v l entry c 0) (HaveAcknowledged n up v l entry c n)
+    (reach_asking domain n up entry t (HaveAdopted n up base v l c n) (HaveAcknowledged n up v l entry c 0)
+    (adopt_all domain n up base v group ahead inv t g.preserved b)
+    (λ u d p. append_entry domain n up base v l c entry group ahead u d.preserved admitted p))
+    (λ u d p. acknowledge_all domain n up v l entry c group u d.preserved p) in
+    asking_then domain n up entry t (HaveAcknowledged n up v l entry c n) (IsServedIn n up v l entry base) acknowledged
+    (λ u d p. serve domain n up v l entry c base group ahead u (goes_on domain n up base t u g d) p.within p.saved
+    (λ j low on ne. p.acknowledged j low low on ne))
+
+reach_served : (domain : List ℕ) (n : ℕ) (up : ℕ → Bool) (base : World) (entry : Entry) (v : ℕ) → IsGroup n →
+    WorldInvariant domain n base → CanServe n up base entry → IsAhead n up base v →
+    ReachAsking domain n up entry base (λ x. IsServed n up base x entry)
+reach_served domain n up base entry v group inv can ahead =
+    reach_asking domain n up entry base (HasStarted n up base v) (λ x. IsServed n up base x entry)
+    (reach_started domain n up base v group inv ahead)
+    (λ t g b.
+    let started : List Entry = (node_of_world base b.node).saved.log in
+    let admitted : admission started entry.client entry.number ≡ Append =
+    new_is_admitted started entry (can.logs b.node b.is_node b.is_up) (can.number b.node b.is_node b.is_up) in
+    asking_then domain n up entry t (IsServedIn n up v started entry base) (λ x. IsServed n up base x entry)
+    (serve_started domain n up base entry v group inv ahead t g b admitted)
+    (λ u d p. reach_here domain n up u (λ x. IsServed n up base x entry) d.preserved p.served))
 
 pub never_stuck : NeverStuck
 never_stuck domain n events up entry group can =
     let base : World = world domain n events in
     let inv : WorldInvariant domain n base = world_invariant domain n events group in
     let v : (v : ℕ) × IsAhead n up base v = next_view domain n up base entry group inv can in
-    let r : Reach domain n up base (λ x. IsServed n up base x entry) =
+    let r : ReachAsking domain n up entry base (λ x. IsServed n up base x entry) =
     reach_served domain n up base entry v.0 group inv can v.1 in
     let same : world domain n (events ++ r.goes.more) ≡ r.later =
     world_from-append domain n (first_world n) events r.goes.more ∙ r.goes.leads in

@@ -53,6 +53,7 @@ hear_one domain n up u j v s group small on changing m t from ne sent inv saved 
     record {
       later = r.later;
       goes = r.goes;
+      quiet = r.quiet;
       holds = record {
         saved = r.holds.saved ∙ hears.saved;
         there = λ l q. r.holds.there l q ∙ there l q;
@@ -161,6 +162,7 @@ hear_all domain n up u j v s group most small on changing asked inv saved none s
     record {
       later = r.later;
       goes = r.goes;
+      quiet = r.quiet;
       holds = offered_at_last n up u j v s r.later most small r.holds;
     }
 
@@ -204,6 +206,7 @@ offer_next domain n up base v group ahead old k u small on inv p =
     record {
       later = r.later;
       goes = r.goes;
+      quiet = r.quiet;
       holds = record {
         saved = λ j l on_j. ⊎_elim
             (λ e. rw e r.holds.saved)

@@ -20,7 +20,7 @@ use Rattle.desk_node.specs.State.{State, NodeStep}
 use Rattle.desk_world.specs.World.{World, node_of_world}
 use Rattle.desk_world.proofs.Packets.{Contains-here}
 use Rattle.desk_world.proofs.LaterWorlds.{not_down, LeadsTo, Reach, goes_on, reach_all, stepped, goes_suspect}
-use Rattle.desk_world.proofs.LaterWorlds.{node_here}
+use Rattle.desk_world.proofs.LaterWorlds.{node_here, quiet_on, quiet_suspect}
 use Rattle.desk_world.proofs.LaterWorlds.{node_there, sent_here}
 use Rattle.desk_world.proofs.WorldInvariants.{WorldInvariant}
 
@@ -110,6 +110,7 @@ raise_one domain n up group i v small on last zero u k e =
     record {
       later = stepped domain n u i events.Suspect;
       goes = goes_suspect domain n up u group k i small on;
+      quiet = quiet_suspect domain n up u group k i small on;
       holds = rw next at (raise_once domain n u i k small (omega (arith, e, last)));
     }
 raise_one domain n up group i v small on last (suc d) u k e =
@@ -124,6 +125,7 @@ raise_one domain n up group i v small on last (suc d) u k e =
     record {
       later = r.later;
       goes = goes_on domain n up u t r.later goes r.goes;
+      quiet = quiet_on domain n up u t r.later goes r.goes (quiet_suspect domain n up u group k i small on) r.quiet;
       holds = record {
         saved = r.holds.saved ∙ ap (in_view v) one.saved;
         received = r.holds.received ∙ one.received;
@@ -161,6 +163,7 @@ raise_next domain n up base v group ahead k u small on inv p =
     record {
       later = r.later;
       goes = r.goes;
+      quiet = r.quiet;
       holds = record {
         saved = λ j l on_j. by_saved r j (cases_eq j k) l on_j;
         received = λ j. by_received r j (cases_eq j k);

@@ -166,9 +166,11 @@ pub record AwaitsCommit (n : ℕ) (up : ℕ → Bool) (v : ℕ) (l : List Entry)
       Contains (node_of_world t (primary n v)).received
       (PrepareOk j v (length l + 1))
 
--- The entry is served, and the primary has committed its log.
+-- The entry is served by the primary, which has committed its log.
 pub record IsServedIn (n : ℕ) (up : ℕ → Bool) (v : ℕ) (l : List Entry) (e : Entry) (base t : World) : Type 0 where
   pub served : IsServed n up base t e
+  pub node_is : served.node ≡ primary n v
+  pub place_is : served.place ≡ length l + 1
   pub saved : (node_of_world t (primary n v)).saved ≡ normal_in v (l ++ e ∷ []) (length l + 1)
 
 -- With these packets received too few acknowledged the entry, or it is served.
@@ -181,22 +183,27 @@ pub record HasCounted (n : ℕ) (up : ℕ → Bool) (v : ℕ) (l : List Entry) (
 
 commit_serves : (domain : List ℕ) (n : ℕ) (up : ℕ → Bool) (v : ℕ) (l : List Entry) (e : Entry) (base t later : World)
     (c : ℕ) (change : Change) → IsGroup n → up (primary n v) ≡ true → LeadsTo domain n up base t → c ≤ length l →
-    ChangesNode domain t (primary n v) change later → Commits v c l e change → IsServed n up base later e
+    ChangesNode domain t (primary n v) change later → Commits v c l e change → IsServedIn n up v l e base later
 commit_serves domain n up v l e base t later c change group lead goes within g commits = record {
-  node = i;
-  is_node = mod-lt v (omega (arith, group.least));
-  is_up = lead;
-  place = m;
-  committed = rw saved (entry_at-take m log m (omega arith) ∙ last);
-  added = goes.added ++ map (λ a. (i, a)) (outcomes_of domain change.saved.log change.answers);
-  answers_are = g.answered
-      ∙ (ap (λ x. x ++ map (λ a. (i, a)) (outcomes_of domain change.saved.log change.answers)) goes.answers
-      ∙ append_assoc base.answers goes.added
-      (map (λ a. (i, a)) (outcomes_of domain change.saved.log change.answers)));
-  reply = reply_to domain log m e;
-  answered = Contains-append_right goes.added
-      (map (λ a. (i, a)) (outcomes_of domain change.saved.log change.answers)) (i, answer)
-      (Contains-map i (outcomes_of domain change.saved.log change.answers) answer announced);
+  served = record {
+    node = i;
+    is_node = mod-lt v (omega (arith, group.least));
+    is_up = lead;
+    place = m;
+    committed = rw saved (entry_at-take m log m (omega arith) ∙ last);
+    added = goes.added ++ map (λ a. (i, a)) (outcomes_of domain change.saved.log change.answers);
+    answers_are = g.answered
+        ∙ (ap (λ x. x ++ map (λ a. (i, a)) (outcomes_of domain change.saved.log change.answers)) goes.answers
+        ∙ append_assoc base.answers goes.added
+        (map (λ a. (i, a)) (outcomes_of domain change.saved.log change.answers)));
+    reply = reply_to domain log m e;
+    answered = Contains-append_right goes.added
+        (map (λ a. (i, a)) (outcomes_of domain change.saved.log change.answers)) (i, answer)
+        (Contains-map i (outcomes_of domain change.saved.log change.answers) answer announced);
+  };
+  node_is = refl;
+  place_is = refl;
+  saved = saved;
 }
   where
     i : ℕ
@@ -240,6 +247,7 @@ count_one domain n up v l e base group lead j from ne t goes c within saved sent
     record {
       later = r.later;
       goes = r.goes;
+      quiet = r.quiet;
       holds = record {
         result = ⊎_elim
             (λ x. inl (
@@ -247,10 +255,7 @@ count_one domain n up v l e base group lead j from ne t goes c within saved sent
               r.holds.received ∙ ap (λ y. rs ++ y) x.taken_is,
               (x.commit, x.within, r.holds.saved ∙ x.saved),
             ))
-            (λ x. inr (record {
-              served = commit_serves domain n up v l e base t r.later c change group lead goes within r.holds x;
-              saved = r.holds.saved ∙ x.saved;
-            }))
+            (λ x. inr (commit_serves domain n up v l e base t r.later c change group lead goes within r.holds x))
             counted.result;
       };
     }
@@ -268,6 +273,7 @@ await_one domain n up v l e base group lead k t small ne goes sent w =
     record {
       later = r.later;
       goes = r.goes;
+      quiet = r.quiet;
       holds = record {
         result = ⊎_elim
             (λ x. inl (record {
@@ -370,6 +376,7 @@ await_last domain n up v l e base group most lead j from ne t goes sent p = by_r
         record {
           later = r.later;
           goes = r.goes;
+          quiet = r.quiet;
           holds = ⊎_elim (λ x. absurd (omega (arith, x.0, all, most))) (λ s. s) r.holds.result;
         }
 

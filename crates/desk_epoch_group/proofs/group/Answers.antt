@@ -21,3 +21,6 @@ returns-clause-names c = histories.identifiers_stay
 
 pub returns-clause-replies : goal.returns-clause-replies
 returns-clause-replies c = histories.replies_agree
+
+pub returns-clause-requested : goal.returns-clause-requested
+returns-clause-requested c = histories.entries_are_requested

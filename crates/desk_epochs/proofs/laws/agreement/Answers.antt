@@ -1,5 +1,6 @@
 use Rattle.desk_epochs.proofs.Epochs as epochs
 use Rattle.desk_epochs.proofs.EpochBoards as boards
+use Rattle.desk_epochs.proofs.RequestedHistories as asked
 use Rattle.desk_epochs.proofs.laws.agreement.Goals as goal
 
 pub returns-clause-agree : goal.returns-clause-agree
@@ -19,3 +20,6 @@ returns-clause-names c = boards.epoch_identifiers_stay
 
 pub returns-clause-replies : goal.returns-clause-replies
 returns-clause-replies c = boards.epoch_replies_agree
+
+pub returns-clause-requested : goal.returns-clause-requested
+returns-clause-requested c = asked.entries_requested
