@@ -4,3 +4,5 @@ pub mod Members
 pub mod Reported
 pub mod Trying
 pub mod Placed
+pub mod Readers
+pub mod Crossing

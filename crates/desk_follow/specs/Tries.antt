@@ -1,25 +1,36 @@
 -- What nodes were asked, and what came of it.
 use Rattle.std.specs.Prelude.{◌≡◌, ◌≢◌, ◌⊎◌, ℕ, ◌+◌, ◌<◌, ◌==◌, Bool, true, false, List, [], ◌∷◌, ◌++◌, Option}
-use Rattle.std.specs.Prelude.{Some, None}
+use Rattle.std.specs.Prelude.{Some, None, map}
 use Rattle.std.specs.Prelude.{Result, Ok, Err, String, string_bytes, if◌then◌else◌}
 use Rattle.desk_types.specs.declared.refusal.Refusal.{Refusal}
 use Rattle.desk_types.specs.declared.refusal.Refusal.TheVariants as refusals
-use Rattle.desk_send.specs.Exchanges.{Traffic, Exchanged}
+use Rattle.desk_lines.specs.declared.buffer.LineBuffer.{LineBuffer}
+use Rattle.desk_send.specs.Exchanges.{Traffic, Exchanged, GivesUp, request}
 use Rattle.desk_follow.specs.declared.course.Course.{Course}
 use Rattle.desk_follow.specs.declared.course.Course.TheVariants as courses
 use Rattle.desk_follow.specs.declared.nodes.NoReply.{NoReply}
+use Rattle.desk_follow.specs.declared.nodes.NodeReply.{NodeReply}
 use Rattle.desk_follow.specs.Readings.{course_of}
 
--- A line that a node was asked, and its reply, where one came.
+-- What a node was asked, as the bytes that are sent for a line, and its reply, where one came.
 pub record Try : Type 0 where
   pub node : ℕ
-  pub line : List ℕ
+  pub asked : List ℕ
   pub came : Option (List ℕ)
 
 -- the reply, where one came
 abbrev pub came_of : {A : Type 0} → Result (String A) NoReply → Option (List ℕ)
 came_of (Ok reply) = Some (string_bytes reply)
 came_of (Err fault) = None
+
+-- what is sent for a line, of which a buffer holds this
+abbrev pub held_request : LineBuffer → List ℕ
+held_request line = line.bytes.items ++ (if line.is_long then 32 ∷ 10 ∷ [] else 10 ∷ [])
+
+-- the tries that lines and what came of each tell, in order
+abbrev pub tries_of : List (LineBuffer × NodeReply) → List Try
+tries_of entries =
+    map (λ e. record { node = e.1.node; asked = held_request e.0; came = came_of e.1.reply }) entries
 
 -- what is done about the line then; it is asked again where no reply came
 abbrev pub course_by : ℕ → Option (List ℕ) → Course
@@ -40,33 +51,30 @@ node_by count node courses.Final = node
 abbrev pub node_after : ℕ → ℕ → Option (List ℕ) → ℕ
 node_after count node came = node_by count node (course_by count came)
 
--- The tries are of this line, one after the other: the first at one node, each later one where the try before it sends
--- the line, none with a final reply. The last sends it to the other node.
+-- These bytes were asked in each try, one after the other: first of one node, then where the try before sends the line.
+-- None had a final reply. The last sends the line to the other node.
 abbrev pub LeadsTo : ℕ → List ℕ → ℕ → List Try → ℕ → Type 0
-LeadsTo count line first [] next = next ≡ first
-LeadsTo count line first (t ∷ tries) next =
-    (t.node ≡ first) × (t.line ≡ line) × (course_by count t.came ≢ courses.Final)
-    × LeadsTo count line (node_after count first t.came) tries next
+LeadsTo count asked first [] next = next ≡ first
+LeadsTo count asked first (t ∷ tries) next =
+    (t.node ≡ first) × (t.asked ≡ asked) × (course_by count t.came ≢ courses.Final)
+    × LeadsTo count asked (node_after count first t.came) tries next
 
--- tries that are known grow by these at their end
-abbrev pub GrowsBy : Option (List Try) → Option (List Try) → List Try → Type 0
-GrowsBy None new more = Unit {0}
-GrowsBy (Some tries) new more = new ≡ Some (tries ++ more)
-
--- tries that are known grow by one
-abbrev pub GrowsByTry : Option (List Try) → Option (List Try) → ℕ → List ℕ → Option (List ℕ) → Type 0
-GrowsByTry old new node line came = GrowsBy old new (record { node = node; line = line; came = came } ∷ [])
+-- the tries grow by one, in which a node was asked this line
+abbrev pub GrowsByTry : List Try → List Try → ℕ → List ℕ → Option (List ℕ) → Type 0
+GrowsByTry old new node line came =
+    new ≡ old ++ record { node = node; asked = request line; came = came } ∷ []
 
 -- Nodes were asked this line alone, in the order that replies say, and none gave a final reply.
-abbrev pub Tried : ℕ → Option (List Try) → ℕ → List ℕ → Option (List Try) → ℕ → Type 0
-Tried count old first line new next = (tries : List Try) × GrowsBy old new tries × LeadsTo count line first tries next
+abbrev pub Tried : ℕ → List Try → ℕ → List ℕ → List Try → ℕ → Type 0
+Tried count old first line new next =
+    (tries : List Try) × (new ≡ old ++ tries) × LeadsTo count (request line) first tries next
 
 -- Nodes were asked this line alone, in the order that replies say. The last gave this reply, which is final, and none
 -- before did.
-abbrev pub Answered : ℕ → Option (List Try) → ℕ → List ℕ → List ℕ → Option (List Try) → ℕ → Type 0
+abbrev pub Answered : ℕ → List Try → ℕ → List ℕ → List ℕ → List Try → ℕ → Type 0
 Answered count old first line reply new last =
-    (tries : List Try) × GrowsBy old new (tries ++ record { node = last; line = line; came = Some reply } ∷ [])
-    × LeadsTo count line first tries last × (course_of count reply ≡ courses.Final)
+    (tries : List Try) × (new ≡ old ++ (tries ++ record { node = last; asked = request line; came = Some reply } ∷ []))
+    × LeadsTo count (request line) first tries last × (course_of count reply ≡ courses.Final)
 
 -- Why a line is given up, and whether that is noted: memory was refused, or the time for its tries is over.
 abbrev pub GivenUp : Refusal → Bool → Type 0
@@ -82,3 +90,8 @@ IsWithin count other = Unit {0}
 abbrev pub RepliesOver : Option (List ℕ) → Option (List ℕ) → List ℕ → List ℕ → Type 0
 RepliesOver sent left line reply =
     (new : Traffic) × Exchanged (record { sent = sent; left = left; is_broken = false }) line reply new
+
+-- A prefix of what is sent for the line went out, and no reply line came.
+abbrev pub BreaksOver : Option (List ℕ) → Option (List ℕ) → List ℕ → Type 0
+BreaksOver sent left line =
+    (new : Traffic) × GivesUp (record { sent = sent; left = left; is_broken = false }) line refusals.ReadFault new

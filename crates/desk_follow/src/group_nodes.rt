@@ -1,7 +1,10 @@
 //! The nodes of a group, over connections to their ports for sessions.
 
+ghost use Rattle.std.specs.Prelude.{◌≡◌, [], IfOk};
+
 use crate::node_stream::{NodeStream, open_stream};
 use crate::nodes::{NoReply, Nodes};
+use crate::try_log::TryLog;
 use desk_admission::GroupAddress;
 use desk_lines::LineBuffer;
 use desk_types::WantOfMemory;
@@ -23,6 +26,7 @@ pub struct GroupNodes<R: Net<Stream = TcpStream> + Clock + RandomSource> {
     limit: Duration,
     /// When the line began, where the clock tells it.
     began: Option<Instant>,
+    tries: TryLog,
 }
 
 // It is written out, so that a caller does not prove again how each part is dropped.
@@ -35,6 +39,7 @@ impl<R: Net<Stream = TcpStream> + Clock + RandomSource + Drop> Drop for GroupNod
             streams: _,
             limit: _,
             began: _,
+            tries: _,
         } = self;
     }
 }
@@ -47,7 +52,9 @@ impl<R: Net<Stream = TcpStream> + Clock + RandomSource + Drop> GroupNodes<R> {
         address: GroupAddress,
         nodes: u8,
         seconds: u16,
-    ) -> Result<GroupNodes<R>, WantOfMemory> {
+    ) -> Result<GroupNodes<R>, WantOfMemory>
+        ensures tries { IfOk result (λ asked. asked.tries ≡ []) }
+    {
         let mut streams = Vec::new(alloc);
         for _ in 0..nodes {
             streams.push(None)?;
@@ -59,11 +66,14 @@ impl<R: Net<Stream = TcpStream> + Clock + RandomSource + Drop> GroupNodes<R> {
             streams,
             limit: Duration::from_secs(seconds as u64),
             began: None,
+            tries: TryLog::new(),
         })
     }
 
     /// The connection to a node, a new one where none was kept.
-    fn take_stream(&mut self, node: u8) -> Option<NodeStream> {
+    fn take_stream(&mut self, node: u8) -> Option<NodeStream>
+        ensures tries { self.new.tries ≡ self.old.tries }
+    {
         let preserved = match self.streams.get_mut(node as usize) {
             Some(preserved) => preserved.take(),
             None => None,
@@ -75,7 +85,9 @@ impl<R: Net<Stream = TcpStream> + Clock + RandomSource + Drop> GroupNodes<R> {
     }
 
     /// Keeps the connection to a node for the next line.
-    fn keep_stream(&mut self, node: u8, stream: NodeStream) {
+    fn keep_stream(&mut self, node: u8, stream: NodeStream)
+        ensures tries { self.new.tries ≡ self.old.tries }
+    {
         if let Some(preserved) = self.streams.get_mut(node as usize) {
             *preserved = Some(stream);
         }
@@ -93,11 +105,10 @@ impl<R: Net<Stream = TcpStream> + Clock + RandomSource + Drop> GroupNodes<R> {
     }
 }
 
-/// No contract sees what is asked over sockets.
+/// Its tries are those that it notes. No contract sees the bytes of a socket: that a try sends its line alone, once, is
+/// said of any reader and writer.
 impl<R: Net<Stream = TcpStream> + Clock + RandomSource + Drop> Nodes for GroupNodes<R> {
-    ghost use Rattle.std.specs.Prelude.{None};
-
-    ghost tries = { λ _. None };
+    ghost tries = { λ asked. asked.tries };
 
     fn begin(self) -> GroupNodes<R> {
         let mut nodes = self;
@@ -108,9 +119,10 @@ impl<R: Net<Stream = TcpStream> + Clock + RandomSource + Drop> Nodes for GroupNo
     fn ask(self, node: u8, line: &LineBuffer) -> (GroupNodes<R>, Result<String, NoReply>) {
         let mut nodes = self;
         let Some(stream) = nodes.take_stream(node) else {
-            return (nodes, Err(NoReply::Broken));
+            let reply = nodes.tries.note(node, line, Err(NoReply::Broken));
+            return (nodes, reply);
         };
-        let (stream, reply) = stream.reply(nodes.alloc, line);
+        let (stream, reply) = stream.reply(nodes.alloc, node, line, &mut nodes.tries);
         if reply.is_ok() {
             nodes.keep_stream(node, stream);
         }

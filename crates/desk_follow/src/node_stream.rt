@@ -1,10 +1,13 @@
 //! A connection to a node's sessions.
 
-ghost use Rattle.std.specs.Prelude.{ℕ, List, IfOk, string_bytes};
+ghost use Rattle.std.specs.Prelude.{◌≡◌, ℕ, List, IfOk, IfErr, string_bytes};
 ghost use Rattle.desk_lines.specs.Holding.{HoldsLine};
-ghost use Rattle.desk_follow.specs.Tries.{RepliesOver};
+ghost use Rattle.desk_send.specs.Replies.{IsReplyLine};
+ghost use Rattle.desk_follow.specs.declared.nodes.NoReply.TheVariants as faults;
+ghost use Rattle.desk_follow.specs.Tries.{RepliesOver, BreaksOver, GrowsByTry, came_of};
 
 use crate::nodes::NoReply;
+use crate::try_log::TryLog;
 use desk_admission::{
     CLIENT, Endpoint, GroupAddress, KeyedPort, connect_within, dial, drawn_nonce,
 };
@@ -91,8 +94,11 @@ fn reply_over<B: BufRead + Drop, W: Write + Drop>(
     line: &LineBuffer,
 ) -> Result<String, NoReply>
     // This line alone was sent, once, and the reply is the next line that came.
-    ensures { IfOk result (λ reply. (text : List ℕ) → HoldsLine line.now text →
+    ensures ok { IfOk result (λ reply. (text : List ℕ) → HoldsLine line.now text →
         RepliesOver (W.contents writer) (B.remaining reader) text (string_bytes reply)) }
+    // Where the node is told to have given none, none came.
+    ensures broken { IfErr result (λ fault. (text : List ℕ) → HoldsLine line.now text → fault ≡ faults.Broken →
+        BreaksOver (W.contents writer) (B.remaining reader) text) }
 {
     let (connection, reply) = NodeConnection::new(alloc, reader, writer).answer(line);
     drop(connection);
@@ -104,17 +110,42 @@ fn reply_over<B: BufRead + Drop, W: Write + Drop>(
     }
 }
 
-/// The reply that a node gives to a line.
+/// The same, over what gives the node's bytes and what takes those for it.
 fn reply_on<I: Read + Drop, O: Write + Drop>(
     alloc: Global,
     input: I,
     output: O,
     line: &LineBuffer,
-) -> Result<String, NoReply> {
+) -> Result<String, NoReply>
+    ensures ok { IfOk result (λ reply. (text : List ℕ) → HoldsLine line.now text →
+        RepliesOver (O.contents output) (I.remaining input) text (string_bytes reply)) }
+    ensures broken { IfErr result (λ fault. (text : List ℕ) → HoldsLine line.now text → fault ≡ faults.Broken →
+        BreaksOver (O.contents output) (I.remaining input) text) }
+{
     match BufReader::new(alloc, input) {
         Ok(reader) => reply_over(alloc, reader, output, line),
         Err(_) => Err(NoReply::WantOfMemory),
     }
+}
+
+/// The same of the node with this number, which is noted as one try.
+fn noted_reply<I: Read + Drop, O: Write + Drop>(
+    alloc: Global,
+    input: I,
+    output: O,
+    node: u8,
+    line: &LineBuffer,
+    tries: &mut TryLog,
+) -> Result<String, NoReply>
+    ensures ok { IfOk result (λ reply. (text : List ℕ) → HoldsLine line.now text →
+        RepliesOver (O.contents output) (I.remaining input) text (string_bytes reply)) }
+    ensures broken { IfErr result (λ fault. (text : List ℕ) → HoldsLine line.now text → fault ≡ faults.Broken →
+        BreaksOver (O.contents output) (I.remaining input) text) }
+    ensures tried { (text : List ℕ) → HoldsLine line.now text →
+        GrowsByTry tries.old tries.new node text (came_of result) }
+{
+    let reply = reply_on(alloc, input, output, line);
+    tries.note(node, line, reply)
 }
 
 /// Sends a line, and writes the reply to it.
@@ -136,20 +167,34 @@ fn send_on<I: Read + Drop, O: Write + Drop>(
 }
 
 impl NodeStream {
-    /// The reply that the node gives to a line.
+    /// The reply that the node with this number gives to a line, which is noted as one try.
     pub(crate) fn reply(
         self,
         alloc: Global,
+        node: u8,
         line: &LineBuffer,
-    ) -> (NodeStream, Result<String, NoReply>) {
+        tries: &mut TryLog,
+    ) -> (NodeStream, Result<String, NoReply>)
+        ensures whole { IfOk result.1 (λ reply. (text : List ℕ) → HoldsLine line.now text →
+            IsReplyLine (string_bytes reply)) }
+        ensures tried { (text : List ℕ) → HoldsLine line.now text →
+            GrowsByTry tries.old tries.new node text (came_of result.1) }
+    {
         match self {
             NodeStream::Open(stream) => {
-                let reply = reply_on(alloc, &stream, &stream, line);
+                let reply = noted_reply(alloc, &stream, &stream, node, line, tries);
                 (NodeStream::Open(stream), reply)
             }
             NodeStream::Keyed(stream) => {
                 let mut stream = stream;
-                let reply = reply_on(alloc, &mut stream.input, &mut stream.output, line);
+                let reply = noted_reply(
+                    alloc,
+                    &mut stream.input,
+                    &mut stream.output,
+                    node,
+                    line,
+                    tries,
+                );
                 (NodeStream::Keyed(stream), reply)
             }
         }

@@ -13,14 +13,21 @@ pub enum NoReply {
     Broken,
 }
 
+/// What came of a try at a node.
+#[derive(Drop)]
+pub struct NodeReply {
+    pub node: u8,
+    pub reply: Result<String, NoReply>,
+}
+
 /// The nodes of a group.
 pub trait Nodes {
-    ghost use Rattle.std.specs.Prelude.{◌≡◌, ℕ, List, Option};
+    ghost use Rattle.std.specs.Prelude.{◌≡◌, ℕ, List};
     ghost use Rattle.desk_lines.specs.Holding.{HoldsLine};
     ghost use Rattle.desk_follow.specs.Tries.{Try, GrowsByTry, came_of};
 
-    /// What nodes were asked and what came of it, in order, where that is known.
-    ghost tries: { Self → Option (List Try) };
+    /// What nodes were asked and what came of it, in order.
+    ghost tries: { Self → List Try };
 
     /// A line begins: the time for its tries counts from here.
     fn begin(self) -> Self

@@ -1,14 +1,20 @@
 -- What a request's head says of the host and the site that it is of.
-use Rattle.std.specs.Prelude.{ℕ, ◌&&◌, Bool, false, not, List, codes, Option, Some, None, option_map, is_some}
+use Rattle.std.specs.Prelude.{ℕ, ◌&&◌, Bool, false, not, List, [], ◌∷◌, codes, Option, Some, None, option_map, is_some}
 use Rattle.http.specs.declared.request.Parts.{Parts}
-use Rattle.http_header.specs.HeaderMap.{get}
+use Rattle.http_header.specs.HeaderMap.{get_all}
 use Rattle.http_header.specs.Token.{lowercase}
 use Rattle.http_uri.specs.Uri.{uri_authority}
 use Rattle.desk_http.specs.Texts.{is_own_host, is_own_origin, is_text}
 
--- the first value of the field of this name
+-- the value of a list that has one alone
+abbrev pub sole : {A : Type 0} → List A → Option A
+sole [] = None
+sole (x ∷ []) = Some x
+sole (x ∷ y ∷ rest) = None
+
+-- the value of the field of this name, where the head has exactly one such field
 abbrev pub field_in : List ℕ → Parts → Option (List ℕ)
-field_in name head = option_map (λ value. value.bytes) (get head.headers (lowercase name))
+field_in name head = option_map (λ value. value.bytes) (sole (get_all head.headers (lowercase name)))
 
 -- the host is this one, if there is one
 abbrev pub is_own : Option (List ℕ) → Bool

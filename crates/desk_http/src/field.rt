@@ -9,27 +9,32 @@ use crate::host::{is_own_host, is_own_origin};
 use bytes::Bytes;
 use http::Request;
 
-/// The first value of the field `host`.
+/// The value of a field, where the head has exactly one of this name.
+fn sole_value<'a>(request: &'a Request<Bytes>, name: &'static str) -> Option<&'a [u8]>
+    ensures { option_map (λ value. value.now) result ≡ field_in name.now (head_of request.now) }
+{
+    let mut values = request.headers().get_all(name).iter();
+    match (values.next(), values.next()) {
+        (Some(value), None) => Some(value.as_bytes()),
+        _ => None,
+    }
+}
+
+/// The host that a request is meant for, where it names one alone.
 fn host_of(request: &Request<Bytes>) -> Option<&[u8]>
     ensures { option_map (λ value. value.now) result ≡ field_in (codes "host") (head_of request.now) }
 {
-    match request.headers().get("host") {
-        Some(value) => Some(value.as_bytes()),
-        None => None,
-    }
+    sole_value(request, "host")
 }
 
-/// The first value of the field `origin`.
+/// The site that a request comes from, where it names one alone.
 fn origin_of(request: &Request<Bytes>) -> Option<&[u8]>
     ensures { option_map (λ value. value.now) result ≡ field_in (codes "origin") (head_of request.now) }
 {
-    match request.headers().get("origin") {
-        Some(value) => Some(value.as_bytes()),
-        None => None,
-    }
+    sole_value(request, "origin")
 }
 
-/// Whether a request is meant for this host, and says so in its field `host` alone.
+/// Whether a request is meant for this host, and says so in its one field `host` alone.
 pub(crate) fn has_own_host(request: &Request<Bytes>) -> bool
     ensures { result ≡ has_own_host (head_of request.now) }
 {
@@ -53,8 +58,8 @@ fn has_own_origin(request: &Request<Bytes>) -> bool
 fn is_json(request: &Request<Bytes>) -> bool
     ensures { result ≡ is_json (head_of request.now) }
 {
-    match request.headers().get("content-type") {
-        Some(value) => is_same(value.as_bytes(), b"application/json"),
+    match sole_value(request, "content-type") {
+        Some(value) => is_same(value, b"application/json"),
         None => false,
     }
 }

@@ -6,3 +6,4 @@ pub mod Nodes
 pub mod Rising
 pub mod Answered
 pub mod Published
+pub mod Crossing

@@ -8,6 +8,7 @@ use crate::asks::{ask, read_board};
 use crate::board::Board;
 use crate::board_line::BoardLine;
 use crate::group::SeenGroup;
+use crate::metrics::microseconds_since;
 use bytes::Bytes;
 use desk_http::Admitted;
 use desk_lines::Handler;
@@ -16,13 +17,16 @@ use desk_types::Refusal;
 use std::alloc::{AllocError, Global};
 use std::sync::{Condvar, CondvarTimeouts, Mutex, Wait};
 use std::thread;
-use std::time::{Clock, Duration};
+use std::time::{Clock, Duration, Instant};
 
-/// So often a free handler is looked for before there are no replies.
-const FREE_LOOKS: u64 = 500;
+/// For how long a free handler is looked for before there are no replies, in seconds.
+const FREE_SECONDS: u64 = 5;
 
 /// Between two looks for a free handler, in milliseconds.
 const FREE_MILLISECONDS: u64 = 10;
+
+/// So often it is looked for where the clock fails. Else these looks take longer than the time for them.
+const FREE_LOOKS: u64 = 500;
 
 /// What the threads of a page's server share: the board that was told last, what is known of the nodes, what was
 /// counted, and two handlers that answer commands.
@@ -229,6 +233,14 @@ fn replies_now<D: Handler + Drop>(
     }
 }
 
+/// Whether a free handler was looked for long enough, by the clock.
+fn is_look_over<R: Clock>(rt: &R, began: &Option<Instant>) -> bool {
+    match microseconds_since(rt, began) {
+        Some(passed) => passed >= FREE_SECONDS * 1_000_000,
+        None => false,
+    }
+}
+
 /// Has a handler answer the lines of a body, and gives its replies. There are none where it gives up, and where neither
 /// handler is free for five seconds: so a thread is not held by what others ask of nodes that are silent.
 pub(crate) fn replies<D: Handler + Drop, R: Wait + Clock>(
@@ -239,9 +251,13 @@ pub(crate) fn replies<D: Handler + Drop, R: Wait + Clock>(
 ) -> Option<Vec<u8>>
     ensures { IfSome result (λ out. IsWritten D.answers admitted.now.body.now out.items) }
 {
+    let began = Instant::now(rt).ok();
     for _look in 0..FREE_LOOKS {
         if let Some(found) = replies_now(alloc, shared, admitted) {
             return found;
+        }
+        if is_look_over(rt, &began) {
+            return None;
         }
         thread::sleep(rt, Duration::from_millis(FREE_MILLISECONDS));
     }

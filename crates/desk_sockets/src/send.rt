@@ -1,10 +1,12 @@
 //! The lines that are sent to a node, or to the primary of a group.
 
-ghost use Rattle.std.specs.Prelude.{◌≡◌, ◌≤◌, IfErr, IsOk};
+ghost use Rattle.std.specs.Prelude.{◌≡◌, ◌≤◌, IfErr, IfSome, IsOk};
 ghost use Rattle.std.specs.Io.KnownBytes.{IsAtEnd};
 ghost use Rattle.desk_types.specs.declared.refusal.Refusal.TheVariants as refusals;
 ghost use Rattle.desk_output.specs.Telling.{TellsFirst};
 ghost use Rattle.desk_output.specs.declared.telling.TheConstants.{DONE, FAILED};
+ghost use Rattle.desk_follow.specs.Tries.{Answered};
+ghost use Rattle.desk_sockets.specs.Followed.{IsAnswered};
 
 use crate::faults::{followed_status, no_node_status, no_proof_status, sent_status};
 use desk_admission::{
@@ -134,6 +136,11 @@ fn followed_lines_status<I: Read, O: Write, E: Write, N: Nodes + Drop>(
     ensures status { result ≤ FAILED }
     // It ends with 0 only where the input was read to its end.
     ensures end { result ≡ DONE → IsAtEnd (I.remaining input.new.input) }
+    // Then each line that is not skipped was asked of nodes until its final reply came, one after the other, and
+    // exactly those replies were written.
+    ensures answered { result ≡ DONE → IfSome (I.remaining input.old.input) (λ text. IsAnswered
+        (λ f line reply g. Answered f.count (N.tries f.nodes) f.node line reply (N.tries g.nodes) g.node)
+        follower (O.contents output.old) text (O.contents output.new)) }
 {
     let (follower, outcome) = follow_lines(alloc, input, output, follower);
     let (nodes, is_late) = (follower.count, follower.is_late);

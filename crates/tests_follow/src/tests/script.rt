@@ -1,6 +1,8 @@
 //! Nodes that answer by a script.
 
-use desk_follow::{Follower, NoReply, Nodes, follow_lines};
+ghost use Rattle.std.specs.Prelude.{◌≡◌};
+
+use desk_follow::{Follower, NoReply, Nodes, TryLog, follow_lines};
 use desk_lines::LineBuffer;
 use desk_types::Refusal;
 use std::alloc::Global;
@@ -16,6 +18,7 @@ pub(super) struct Scripted<'a> {
     answers: &'a [Answer],
     asked: Vec<u8>,
     pauses: Vec<u64>,
+    tries: TryLog,
 }
 
 impl<'a> Scripted<'a> {
@@ -25,11 +28,17 @@ impl<'a> Scripted<'a> {
             answers,
             asked: Vec::new(alloc),
             pauses: Vec::new(alloc),
+            tries: TryLog::new(),
         }
     }
 
-    /// What the node that was asked last answers.
-    fn answer(&self) -> Result<String, NoReply> {
+    /// What a node answers that is asked now.
+    fn answer(&mut self, node: u8) -> Result<String, NoReply>
+        ensures { self.new.tries ≡ self.old.tries }
+    {
+        if self.asked.push(node).is_err() {
+            return Err(NoReply::WantOfMemory);
+        }
         match self.answers.get(self.asked.len().saturating_sub(1)) {
             Some(Some(text)) => String::from_str(self.alloc, text).map_err(
                 |_| NoReply::WantOfMemory,
@@ -40,20 +49,16 @@ impl<'a> Scripted<'a> {
 }
 
 impl<'a> Nodes for Scripted<'a> {
-    ghost use Rattle.std.specs.Prelude.{None};
-
-    ghost tries = { λ _. None };
+    ghost tries = { λ nodes. nodes.tries };
 
     fn begin(self) -> Scripted<'a> {
         self
     }
 
-    fn ask(self, node: u8, _line: &LineBuffer) -> (Scripted<'a>, Result<String, NoReply>) {
+    fn ask(self, node: u8, line: &LineBuffer) -> (Scripted<'a>, Result<String, NoReply>) {
         let mut nodes = self;
-        if nodes.asked.push(node).is_err() {
-            return (nodes, Err(NoReply::WantOfMemory));
-        }
-        let reply = nodes.answer();
+        let reply = nodes.answer(node);
+        let reply = nodes.tries.note(node, line, reply);
         (nodes, reply)
     }
 
