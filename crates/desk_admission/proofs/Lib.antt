@@ -1,1 +1,2 @@
+mod HostTexts
 mod Prefixed

@@ -1,2 +1,3 @@
 pub mod Handshake
+pub mod Hosts
 pub mod Streams

@@ -1,6 +1,7 @@
 //! How the nodes of a group are reached.
 
-ghost use Rattle.std.specs.Prelude.{◌≡◌, IfOk};
+ghost use Rattle.std.specs.Prelude.{◌≡◌, IfOk, slice_get};
+ghost use Rattle.desk_admission.specs.Hosts.{named_hosts, host_of, or_loopback};
 
 use desk_key::Key;
 use desk_types::WantOfMemory;
@@ -29,6 +30,16 @@ impl Drop for Hosts {
     }
 }
 
+/// The host of a node among those of a text, which names them in the order of the nodes, with commas between.
+fn host_in(hosts: &str, node: u8) -> &str
+    ensures { result.now ≡ or_loopback (slice_get (named_hosts hosts.now) node) }
+{
+    match hosts.split(',').nth(node as usize) {
+        Some(host) => host,
+        None => LOOPBACK,
+    }
+}
+
 impl Hosts {
     /// The hosts of a text, which names them in the order of the nodes, with commas between.
     pub fn new(text: Option<String>) -> Hosts
@@ -37,13 +48,12 @@ impl Hosts {
         Hosts { text }
     }
 
-    /// The host of a node.
-    pub fn of_node(&self, node: u8) -> &str {
+    /// The host of a node: of those that are given that at its place, else `LOOPBACK`.
+    pub fn of_node(&self, node: u8) -> &str
+        ensures { result.now ≡ host_of self.now.text node }
+    {
         match &self.text {
-            Some(text) => match text.as_str().split(',').nth(node as usize) {
-                Some(host) => host,
-                None => LOOPBACK,
-            },
+            Some(text) => host_in(text.as_str(), node),
             None => LOOPBACK,
         }
     }

@@ -1,6 +1,7 @@
 //! Connections that come to a node.
 
-ghost use Rattle.std.specs.Prelude.{Some};
+ghost use Rattle.std.specs.Prelude.{◌≡◌, ◌⊎◌, Some};
+ghost use Rattle.desk_connections.specs.Admitted.{HasShownKey};
 ghost use Rattle.desk_mailbox.specs.Ends.{put_by};
 ghost use Rattle.desk_peers.specs.Incoming.{HasPutOnlyOf};
 
@@ -8,7 +9,7 @@ use crate::limits::{
     KEYED_PEER_SECONDS, PAUSE_MILLISECONDS, PEER_SECONDS, PROOF_SECONDS, SESSION_SECONDS,
     WRITE_SECONDS,
 };
-use desk_admission::{AdmittedStream, KeyedPort, admit, drawn_nonce};
+use desk_admission::{AdmittedStream, KeyedPort, NONCE_BYTES, admit, drawn_nonce};
 use desk_eido::want_of_memory_line;
 use desk_mailbox::{Item, Sender};
 use desk_output::write_text;
@@ -24,26 +25,29 @@ use std::sync::Wait;
 use std::thread;
 use std::time::Duration;
 
-/// A connection that came to a port with a key, where its other end shows that it holds it.
-fn admitted<'a, R: RandomSource>(
-    rt: &R,
-    alloc: Global,
-    keyed: &KeyedPort,
-    stream: &'a TcpStream,
-    seconds: u64,
-) -> Option<AdmittedStream<&'a TcpStream, &'a TcpStream>> {
+/// A connection whose reads can be limited.
+trait LimitedReads {
+    /// Has each read wait for so many seconds at most. False where the host can not do that.
+    fn limit_reads(&self, seconds: u64) -> bool;
+}
+
+impl LimitedReads for TcpStream {
+    fn limit_reads(&self, seconds: u64) -> bool {
+        self.set_read_timeout(Some(Duration::from_secs(seconds)))
+            .is_ok()
+    }
+}
+
+/// The nonce for a connection that came to a port with a key, which is limited for the handshake.
+fn nonce_for<R: RandomSource>(rt: &R, stream: &TcpStream) -> Option<[u8; NONCE_BYTES]> {
     let nonce = drawn_nonce(rt).ok()?;
     stream
         .set_write_timeout(Some(Duration::from_secs(WRITE_SECONDS)))
         .ok()?;
-    stream
-        .set_read_timeout(Some(Duration::from_secs(PROOF_SECONDS)))
-        .ok()?;
-    let admitted = admit(alloc, stream, stream, keyed, &nonce).ok()?;
-    stream
-        .set_read_timeout(Some(Duration::from_secs(seconds)))
-        .ok()?;
-    Some(admitted)
+    if !stream.limit_reads(PROOF_SECONDS) {
+        return None;
+    }
+    Some(nonce)
 }
 
 /// Serves one session. Where there is no memory for it, that is told.
@@ -85,6 +89,30 @@ fn serve_admitted<B: BoardName, I: Read + Drop, O: Write + Drop, R: Wait>(
     serve_lines(rt, alloc, &mut input, &mut output, wire, reader)
 }
 
+/// Serves a connection to a port with a key as one session, where its other end shows that it holds the key.
+fn serve_keyed<B: BoardName, I: Read + Drop, O: Write + Drop, L: LimitedReads, R: Wait>(
+    rt: &R,
+    alloc: Global,
+    ends: (I, O),
+    limits: &L,
+    keyed: &KeyedPort,
+    nonce: &[u8; NONCE_BYTES],
+    parts: (Wire<B>, BoardReader<B>),
+) -> (Wire<B>, BoardReader<B>)
+    // Where no hello for this port and its proof came, nothing is asked.
+    ensures { HasShownKey keyed.now nonce.now (I.remaining ends.0) ⊎ (result ≡ parts) }
+{
+    let stream = match admit(alloc, ends.0, ends.1, keyed, nonce) {
+        Ok(stream) => stream,
+        Err(_) => return parts,
+    };
+    if !limits.limit_reads(SESSION_SECONDS) {
+        return parts;
+    }
+    let (wire, reader) = parts;
+    serve_admitted(rt, alloc, stream, wire, reader)
+}
+
 /// Serves a connection as one session, once it is admitted where the port has a key. Then the connection is closed.
 fn serve_stream<B: BoardName, R: Wait + RandomSource>(
     rt: &R,
@@ -103,8 +131,16 @@ fn serve_stream<B: BoardName, R: Wait + RandomSource>(
             let mut output = stream;
             serve_lines(rt, alloc, &mut input, &mut output, wire, reader)
         }
-        Some(keyed) => match admitted(rt, alloc, keyed, stream, SESSION_SECONDS) {
-            Some(stream) => serve_admitted(rt, alloc, stream, wire, reader),
+        Some(keyed) => match nonce_for(rt, stream) {
+            Some(nonce) => serve_keyed(
+                rt,
+                alloc,
+                (stream, stream),
+                stream,
+                keyed,
+                &nonce,
+                (wire, reader),
+            ),
             None => (wire, reader),
         },
     }
@@ -148,6 +184,29 @@ fn take_admitted<I: Read + Drop, O: Write + Drop, R: Wait>(
     sender
 }
 
+/// Takes the packets of a connection to a port with a key, where its other end shows that it holds the key.
+fn take_keyed<I: Read + Drop, O: Write + Drop, L: LimitedReads, R: Wait>(
+    rt: &R,
+    alloc: Global,
+    ends: (I, O),
+    limits: &L,
+    keyed: &KeyedPort,
+    nonce: &[u8; NONCE_BYTES],
+    sender: Sender<Item>,
+) -> Sender<Item>
+    // Where no hello for this port and its proof came, nothing is put.
+    ensures { HasShownKey keyed.now nonce.now (I.remaining ends.0) ⊎ (result ≡ sender) }
+{
+    let admitted = match admit(alloc, ends.0, ends.1, keyed, nonce) {
+        Ok(admitted) => admitted,
+        Err(_) => return sender,
+    };
+    if !limits.limit_reads(KEYED_PEER_SECONDS) {
+        return sender;
+    }
+    take_admitted(rt, alloc, admitted, sender)
+}
+
 /// Takes the packets of a connection, once it is admitted where the port has a key. It ends at the first bytes that are
 /// no frame.
 fn take_stream<R: Wait + RandomSource>(
@@ -165,8 +224,8 @@ fn take_stream<R: Wait + RandomSource>(
             drop(outcome);
             sender
         }
-        Some(keyed) => match admitted(rt, alloc, keyed, stream, KEYED_PEER_SECONDS) {
-            Some(stream) => take_admitted(rt, alloc, stream, sender),
+        Some(keyed) => match nonce_for(rt, stream) {
+            Some(nonce) => take_keyed(rt, alloc, (stream, stream), stream, keyed, &nonce, sender),
             None => sender,
         },
     }

@@ -27,3 +27,7 @@ pub(crate) const LINK_SECONDS: u64 = 10;
 /// One that carried nothing for so many seconds is made anew as well: the peer is about to close it, and what is
 /// written then is lost.
 pub(crate) const IDLE_LINK_SECONDS: u64 = 2;
+
+/// After a try to connect that failed no other is made for so many milliseconds, and packets are lost meanwhile. So
+/// those that waited during the try, of views long gone, are not what a peer that is back gets first.
+pub(crate) const REST_MILLISECONDS: u64 = 100;

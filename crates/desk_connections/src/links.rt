@@ -1,6 +1,8 @@
 //! Connections to the other nodes.
 
-use crate::limits::{IDLE_LINK_SECONDS, LINK_SECONDS, PROOF_SECONDS, WRITE_SECONDS};
+use crate::limits::{
+    IDLE_LINK_SECONDS, LINK_SECONDS, PROOF_SECONDS, REST_MILLISECONDS, WRITE_SECONDS,
+};
 use desk_admission::{KeyedPort, connect_within, dial, drawn_nonce};
 use desk_peers::{Connect, PeerQueue, send_packets};
 use desk_records::Sealed;
@@ -81,6 +83,17 @@ fn age_now<R: Clock>(rt: &R, age: Option<Age>) -> Option<Age> {
     Some(Age { made, used: now })
 }
 
+/// Whether a try to connect failed a moment ago. Not where the host tells no time.
+fn is_resting<R: Clock>(rt: &R, failed: &Option<Instant>) -> bool {
+    match failed {
+        Some(failed) => match failed.elapsed(rt) {
+            Ok(passed) => passed < Duration::from_millis(REST_MILLISECONDS),
+            Err(_) => false,
+        },
+        None => false,
+    }
+}
+
 /// A peer with a key, and what connects to it.
 pub(crate) struct KeyedPeer<R> {
     pub(crate) rt: R,
@@ -90,6 +103,8 @@ pub(crate) struct KeyedPeer<R> {
     pub(crate) from: u8,
     /// That of the connection that is open, where it is known.
     age: Option<Age>,
+    /// When the last try to connect failed, if it did.
+    failed: Option<Instant>,
 }
 
 // It is written out, so that a caller does not prove again how each part is dropped.
@@ -102,6 +117,7 @@ impl<R: Drop> Drop for KeyedPeer<R> {
             keyed: _,
             from: _,
             age: _,
+            failed: _,
         } = self;
     }
 }
@@ -132,8 +148,16 @@ impl<R: Net<Stream = TcpStream> + RandomSource + Clock + Drop> Connect for Keyed
     type Connection = Sealed<TcpStream>;
 
     fn connect(&mut self) -> Option<Sealed<TcpStream>> {
+        if is_resting(&self.rt, &self.failed) {
+            return None;
+        }
         self.age = age_now(&self.rt, None);
-        self.open()
+        let opened = self.open();
+        self.failed = match &opened {
+            Some(_) => None,
+            None => Instant::now(&self.rt).ok(),
+        };
+        opened
     }
 
     fn keeps(&mut self) -> bool {
@@ -186,6 +210,7 @@ pub(crate) fn send_to<R: Net<Stream = TcpStream> + RandomSource + Clock + Wait +
                 keyed,
                 from,
                 age: None,
+                failed: None,
             };
             send_queue(rt, alloc, queue, peer)
         }

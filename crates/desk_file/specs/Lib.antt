@@ -1,4 +1,5 @@
 pub mod Closing
 pub mod Faults
+pub mod Keys
 pub mod Reading
 pub mod Unopened

@@ -1,9 +1,12 @@
 //! The file of a key.
 
-ghost use Rattle.std.specs.Prelude.{◌≡◌, ◌≤◌, length, take, IfErr, IfOk, IfSome};
+ghost use Rattle.std.specs.Prelude.{◌≡◌, ◌≤◌, length, take, is_some, IfErr, IfOk, IfSome};
 ghost use Rattle.std.specs.Io.KnownBytes.{Consumes, IsAtEnd};
 ghost use Rattle.desk_key.specs.KeyText.{IsKeyText};
+ghost use Rattle.desk_output.specs.Telling.{TellsFirst};
 ghost use Rattle.desk_output.specs.declared.telling.TheConstants.{FAILED};
+ghost use Rattle.desk_file.specs.Keys.{no_key_fault};
+ghost use Rattle.desk_file.specs.declared.keys.NoKey.TheVariants as no_keys;
 
 use desk_key::Key;
 use desk_output::LinePart::Text;
@@ -52,7 +55,8 @@ fn read_whole<R: Read>(reader: &mut R, room: &mut [u8]) -> Option<usize>
 
 /// The key that the whole of a reader spells, which gives no more bytes than a file of a key has.
 fn key_from<R: Read>(reader: &mut R) -> Result<Key, NoKey>
-    ensures { IfOk result (λ key. IfSome (R.remaining reader.old) (λ text. IsKeyText text key.bytes)) }
+    ensures key { IfOk result (λ key. IfSome (R.remaining reader.old) (λ text. IsKeyText text key.bytes)) }
+    ensures fault { IfErr result (λ why. why ≡ no_keys.Text) }
 {
     let mut room = [0; KEY_FILE_BYTES + 1];
     let Some(count) = read_whole(reader, &mut room) else {
@@ -75,33 +79,36 @@ fn key_in(file: &mut File) -> Result<Key, NoKey> {
     key_from(file)
 }
 
+/// The fault that is told of a file that gives no key.
+fn no_key_fault(why: NoKey) -> Refusal
+    ensures { result ≡ no_key_fault why }
+{
+    match why {
+        NoKey::Unread => Refusal::ReadFault,
+        NoKey::Shared => Refusal::WrongFile,
+        NoKey::Text => Refusal::WrongFile,
+    }
+}
+
 /// Tells the standard error why a file gives no key, and answers the exit status.
 fn no_key_status<E: Write>(errors: &mut E, name: &str, why: NoKey) -> u8
-    ensures { result ≡ FAILED }
+    ensures status { result ≡ FAILED }
+    ensures printed { TellsFirst (E.contents errors.old) (E.contents errors.new) (no_key_fault why) }
 {
-    let (refusal, parts) = match why {
-        NoKey::Unread => (
-            Refusal::ReadFault,
-            [Text(name), Text(" can not be read"), Text("")],
-        ),
-        NoKey::Shared => (
-            Refusal::WrongFile,
-            [
-                Text(name),
-                Text(" may be read by others than its owner: chmod 600 "),
-                Text(name),
-            ],
-        ),
-        NoKey::Text => (
-            Refusal::WrongFile,
-            [
-                Text(name),
-                Text(" is no key: 64 hexadecimal digits are wanted"),
-                Text(""),
-            ],
-        ),
+    let refusal = no_key_fault(why);
+    let [first, second, third] = match why {
+        NoKey::Unread => [Text(name), Text(" can not be read"), Text("")],
+        NoKey::Shared => [
+            Text(name),
+            Text(" may be read by others than its owner: chmod 600 "),
+            Text(name),
+        ],
+        NoKey::Text => [
+            Text(name),
+            Text(" is no key: 64 hexadecimal digits are wanted"),
+            Text(""),
+        ],
     };
-    let [first, second, third] = parts;
     refusal_status_with(
         errors,
         &refusal,
@@ -128,7 +135,9 @@ pub fn read_key(host: &HostRuntime, name: &str) -> Result<Key, u8>
 
 /// The same, where a file is named.
 pub fn read_given_key(host: &HostRuntime, name: &Option<String>) -> Result<Option<Key>, u8>
-    ensures { IfErr result (λ status. status ≡ FAILED) }
+    // Where a file is named, nothing goes on without a key.
+    ensures given { IfOk result (λ key. is_some key ≡ is_some name.now) }
+    ensures fault { IfErr result (λ status. status ≡ FAILED) }
 {
     match name {
         Some(name) => Ok(Some(read_key(host, name.as_str())?)),

@@ -1,7 +1,8 @@
 //! What the nodes of a group answer that are asked for their boards.
 
-ghost use Rattle.std.specs.Prelude.{◌≡◌, length, IfOk};
+ghost use Rattle.std.specs.Prelude.{◌≡◌, length, Ok, IfOk};
 ghost use Rattle.desk_status.specs.declared.answers.NodeAnswer.{NodeAnswer};
+ghost use Rattle.desk_status.specs.declared.answers.NodeAnswer.TheVariants as node_answers;
 
 use crate::node_stream::{NodeStream, open_stream};
 use crate::place::shown_place;
@@ -72,6 +73,22 @@ pub fn ask_nodes<R: Net<Stream = TcpStream> + Clock + RandomSource>(
     Ok(answers)
 }
 
+/// What a node answers that is asked once more if it was up. One that was down is taken for that.
+fn ask_again<R: Net<Stream = TcpStream> + Clock + RandomSource>(
+    rt: &R,
+    alloc: Global,
+    address: &GroupAddress,
+    node: u8,
+    seen: &NodeAnswer,
+) -> Result<NodeAnswer, WantOfMemory>
+    ensures { seen.now ≡ node_answers.Down → result ≡ Ok node_answers.Down }
+{
+    match seen {
+        NodeAnswer::Down => Ok(NodeAnswer::Down),
+        NodeAnswer::Up { .. } => ask_node(rt, alloc, address, node),
+    }
+}
+
 /// What each node of a group answers. Those that are up are asked once more, for their places to be of one time: one
 /// that is silent holds up those after it.
 pub fn ask_twice<R: Net<Stream = TcpStream> + Clock + RandomSource>(
@@ -85,15 +102,11 @@ pub fn ask_twice<R: Net<Stream = TcpStream> + Clock + RandomSource>(
     let seen = ask_nodes(rt, alloc, address, nodes)?;
     let mut answers = Vec::new(alloc);
     for node in 0..nodes {
-        let is_up = match seen.get(node as usize) {
-            Some(answer) => *answer != NodeAnswer::Down,
-            None => false,
+        let last = match seen.get(node as usize) {
+            Some(seen) => ask_again(rt, alloc, address, node, seen)?,
+            None => NodeAnswer::Down,
         };
-        if is_up {
-            answers.push(ask_node(rt, alloc, address, node)?)?;
-        } else {
-            answers.push(NodeAnswer::Down)?;
-        }
+        answers.push(last)?;
     }
     Ok(answers)
 }

@@ -1,45 +1,80 @@
 //! Which hosts may be given.
 
+ghost use Rattle.std.specs.Prelude.{◌≡◌, true, false, length, All, IfNone, OnOk};
+ghost use Rattle.desk_options.specs.Hosts.{hosts_in, IsHostText, IsLoopbackText, AreHosts, AreAllowed};
+ghost use Rattle.desk_options.specs.Hosts.{IsSentToAllowed, HasAllowedHosts};
+
 use crate::command_line::{FollowOptions, OptionsFault};
 use crate::host::HostRun;
 use std::alloc::Global;
 use std::net::IpAddr;
 
-/// What a host is that was given.
-enum HostKind {
-    /// An address of this host alone.
-    Loopback,
-    /// An address or a name that others may reach too.
-    Beyond,
-    /// It is empty, or an address that is none of a host.
-    NoHost,
-}
-
-/// What a host is.
-fn kind_of_host(host: &str) -> HostKind {
-    match host.parse::<IpAddr>() {
-        Ok(address) if address.is_unspecified() => HostKind::NoHost,
-        Ok(address) if address.is_loopback() => HostKind::Loopback,
-        Ok(_) => HostKind::Beyond,
-        Err(_) if host.is_empty() => HostKind::NoHost,
-        Err(_) => HostKind::Beyond,
+/// Whether a text can be a host: it is not empty, and no address that is none of a host.
+fn is_host(text: &str) -> bool
+    ensures { result ≡ true → IsHostText text.now }
+{
+    match text.parse::<IpAddr>() {
+        Ok(address) => !address.is_unspecified(),
+        Err(_) => !text.is_empty(),
     }
 }
 
-/// Refuses a host that may not be given, or not without a key.
-fn check_host(alloc: Global, host: &str, has_key: bool) -> Result<(), OptionsFault> {
-    match kind_of_host(host) {
-        HostKind::Loopback => Ok(()),
-        HostKind::Beyond if has_key => Ok(()),
-        HostKind::Beyond => Err(OptionsFault::refused(
-            alloc,
-            "desk: a host that is not loopback needs a key\n",
-        )),
-        HostKind::NoHost => Err(OptionsFault::refused(
-            alloc,
-            "desk: a host must not be empty, 0.0.0.0 or ::\n",
-        )),
+/// Whether a text is an address of this host alone.
+fn is_loopback(text: &str) -> bool
+    ensures { result ≡ true → IsLoopbackText text.now }
+{
+    match text.parse::<IpAddr>() {
+        Ok(address) => address.is_loopback(),
+        Err(_) => false,
     }
+}
+
+/// Whether each part of a text can be a host.
+fn are_hosts(hosts: &str) -> bool
+    ensures { result ≡ true → All IsHostText (hosts_in hosts.now) }
+{
+    hosts.split(',').all(|host| is_host(host))
+}
+
+/// Whether each part of a text is an address of this host alone.
+fn are_loopback(hosts: &str) -> bool
+    ensures { result ≡ true → All IsLoopbackText (hosts_in hosts.now) }
+{
+    hosts.split(',').all(|host| is_loopback(host))
+}
+
+/// Whether a text has as many parts as there are nodes.
+fn are_as_many(hosts: &str, nodes: u8) -> bool
+    ensures { result ≡ true → length (hosts_in hosts.now) ≡ nodes }
+{
+    hosts.split(',').count() == nodes as usize
+}
+
+/// Whether there is a key, or each part of a text is an address of this host alone.
+fn are_reached_by_holders(hosts: &str, has_key: bool) -> bool
+    ensures { result ≡ true → has_key ≡ false → All IsLoopbackText (hosts_in hosts.now) }
+{
+    if has_key {
+        return true;
+    }
+    are_loopback(hosts)
+}
+
+/// Why hosts may not be given, if they may not.
+fn hosts_fault(hosts: &str, nodes: u8, has_key: bool) -> Option<&'static str>
+    ensures { IfNone result
+        (AreHosts has_key (hosts_in hosts.now) × (length (hosts_in hosts.now) ≡ nodes)) }
+{
+    if !are_hosts(hosts) {
+        return Some("desk: a host must not be empty, 0.0.0.0 or ::\n");
+    }
+    if !are_reached_by_holders(hosts, has_key) {
+        return Some("desk: a host that is not loopback needs a key\n");
+    }
+    if !are_as_many(hosts, nodes) {
+        return Some("desk: hosts must be as many as nodes\n");
+    }
+    None
 }
 
 /// Refuses hosts that are not as many as nodes, and each that may not be given.
@@ -48,38 +83,29 @@ fn check_hosts(
     hosts: &Option<String>,
     nodes: u8,
     has_key: bool,
-) -> Result<(), OptionsFault> {
+) -> Result<(), OptionsFault>
+    ensures { OnOk result (AreAllowed has_key nodes hosts.now) }
+{
     let Some(hosts) = hosts else {
         return Ok(());
     };
-    let mut count: usize = 0;
-    for host in hosts.as_str().split(',') {
-        check_host(alloc, host, has_key)?;
-        count = count.saturating_add(1);
-    }
-    if count != nodes as usize {
-        return Err(OptionsFault::refused(alloc, "desk: hosts must be as many as nodes\n"));
-    }
-    Ok(())
-}
-
-/// How many nodes a group has that is followed.
-fn followed_nodes(group: &Option<FollowOptions>) -> Option<u8> {
-    match group {
-        Some(group) => Some(group.nodes),
-        None => None,
+    match hosts_fault(hosts.as_str(), nodes, has_key) {
+        Some(text) => Err(OptionsFault::refused(alloc, text)),
+        None => Ok(()),
     }
 }
 
-/// Refuses the host of a node or the hosts of a group of so many nodes that lines are sent to.
+/// Refuses the host of a node or the hosts of a group that lines are sent to.
 fn check_sent_to(
     alloc: Global,
-    nodes: Option<u8>,
+    group: &Option<FollowOptions>,
     host: &Option<String>,
     hosts: &Option<String>,
     has_key: bool,
-) -> Result<(), OptionsFault> {
-    let Some(nodes) = nodes else {
+) -> Result<(), OptionsFault>
+    ensures { OnOk result (IsSentToAllowed has_key group.now host.now hosts.now) }
+{
+    let Some(group) = group else {
         if hosts.is_some() {
             return Err(OptionsFault::refused(alloc, "desk: hosts need a number of nodes\n"));
         }
@@ -88,12 +114,14 @@ fn check_sent_to(
     if host.is_some() {
         return Err(OptionsFault::refused(alloc, "desk: with nodes give hosts, not a host\n"));
     }
-    check_hosts(alloc, hosts, nodes, has_key)
+    check_hosts(alloc, hosts, group.nodes, has_key)
 }
 
 /// Refuses a run whose hosts may not be given: they are as many as nodes, none is empty or `0.0.0.0` or `::`, and
 /// without a key each is an address on loopback. A single host goes by the same.
-pub fn check_hosts_of(alloc: Global, run: &HostRun) -> Result<(), OptionsFault> {
+pub fn check_hosts_of(alloc: Global, run: &HostRun) -> Result<(), OptionsFault>
+    ensures { OnOk result (HasAllowedHosts run.now) }
+{
     match run {
         HostRun::Serve(options) => {
             check_hosts(
@@ -105,7 +133,7 @@ pub fn check_hosts_of(alloc: Global, run: &HostRun) -> Result<(), OptionsFault> 
         }
         HostRun::Send(options) => check_sent_to(
             alloc,
-            followed_nodes(&options.group),
+            &options.group,
             &options.host,
             &options.hosts,
             options.key.is_some(),

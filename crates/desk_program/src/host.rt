@@ -2,6 +2,7 @@
 
 ghost use Rattle.std.specs.Prelude.{◌≡◌, ◌≤◌, Err, IfOk, IfErr};
 ghost use Rattle.desk_options.specs.Host.{IsRunInRange};
+ghost use Rattle.desk_options.specs.Hosts.{HasAllowedHosts};
 
 use crate::ending::RunEnd;
 use crate::run::run_words;
@@ -54,6 +55,7 @@ fn run_between(host: &HostRuntime) -> Result<Result<u8, HostRun>, OptionsFault>
 fn with_allowed_hosts(host: &HostRuntime, run: HostRun) -> Result<u8, HostRun>
     ensures status { IfOk result (λ status. status ≤ REFUSED) }
     ensures run { IfErr result (λ same. same ≡ run) }
+    ensures hosts { IfErr result HasAllowedHosts }
 {
     match check_hosts_of(host.alloc(), &run) {
         Ok(()) => Err(run),
@@ -70,6 +72,8 @@ fn with_allowed_hosts(host: &HostRuntime, run: HostRun) -> Result<u8, HostRun>
 pub fn run_given(host: &HostRuntime) -> Result<u8, HostRun>
     ensures status { IfOk result (λ status. status ≤ REFUSED) }
     ensures range { IfErr result IsRunInRange }
+    // The hosts of a run are as many as its nodes, each a host, and without a key on loopback.
+    ensures hosts { IfErr result HasAllowedHosts }
 {
     match run_between(host) {
         Ok(Ok(status)) => Ok(status),

@@ -3,6 +3,7 @@
 mod handshakes;
 mod memory;
 mod records;
+mod streams;
 mod talking;
 mod texts;
 mod vectors;

@@ -1,6 +1,8 @@
 //! Where memory is refused. These tests are for runs in which one allocation fails; in any other run they say no more
 //! than the rest.
 
+use super::streams::{Port, do_talk};
+use desk_admission::{CLIENT, Endpoint};
 use desk_key::HmacKey;
 use desk_records::{Opened, Sealed};
 use std::alloc::Global;
@@ -60,4 +62,18 @@ fn is_opened(alloc: Global) -> bool {
 #[test]
 fn a_reader_is_made_or_not(rt: HostRuntime) {
     assert!(rt; is_opened(rt.alloc()));
+}
+
+/// Whether both ends of a connection hear each other, at the second try where the first was refused memory.
+fn do_talk_at_last(alloc: Global, port: &Port) -> bool {
+    do_talk(alloc, port, CLIENT) || do_talk(alloc, port, CLIENT)
+}
+
+#[test]
+fn a_handshake_is_made_or_not(rt: HostRuntime) {
+    let port = Port {
+        digit: b'7',
+        endpoint: Endpoint::of_sessions(45_011),
+    };
+    assert!(rt; do_talk_at_last(rt.alloc(), &port));
 }
