@@ -1,6 +1,7 @@
 //! A node over epochs, and what it knows of them.
 
-ghost use Rattle.std.specs.Prelude.{◌≡◌, length};
+ghost use Rattle.std.specs.Prelude.{◌≡◌, ◌<◌, length};
+ghost use Rattle.desk_types.specs.declared.limits.TheConstants.{LAST_PLACE};
 ghost use Rattle.desk_log.specs.SavedValue.{committed_entries};
 ghost use Rattle.desk_epoch_node.specs.EpochValue.{IsInEpoch, committed_cut, has_next, reaches_end};
 
@@ -55,9 +56,10 @@ impl EpochNode {
         }
     }
 
-    /// The epoch that the node is in, counted from 0.
+    /// The epoch that the node is in, counted from 0: past logs have an entry of each epoch at least.
     pub fn epoch(&self) -> u64
-        ensures { result ≡ self.now.epoch }
+        ensures value { result ≡ self.now.epoch }
+        ensures within { result < LAST_PLACE }
     {
         self.epoch
     }

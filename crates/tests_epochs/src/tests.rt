@@ -1,3 +1,4 @@
 //! Worked examples of nodes over epochs, in which an epoch ends after two entries.
 
 mod epochs;
+mod stores;

@@ -18,7 +18,7 @@ fn put_request(bytes: &mut Vec<u8>, client: u64, number: u64) -> Result<(), Allo
     bytes.extend_from_slice(OPEN)
 }
 
-fn entry(alloc: Global, client: u64, number: u64) -> Option<Entry> {
+pub fn entry(alloc: Global, client: u64, number: u64) -> Option<Entry> {
     let mut bytes = Vec::new(alloc);
     put_request(&mut bytes, client, number).ok()?;
     match get_entry(alloc, bytes.as_slice()) {
@@ -28,7 +28,7 @@ fn entry(alloc: Global, client: u64, number: u64) -> Option<Entry> {
 }
 
 /// A node of three in epoch 0, which ends after two entries.
-fn first_node(alloc: Global, id: u8) -> Option<EpochNode>
+pub fn first_node(alloc: Global, id: u8) -> Option<EpochNode>
     requires { id < 3 }
 {
     let domain = Domain::new(alloc, "desk.example").ok()?;
@@ -38,7 +38,7 @@ fn first_node(alloc: Global, id: u8) -> Option<EpochNode>
 
 /// What comes to a node, with numbers of its own.
 #[derive(Clone, Copy)]
-enum Comes {
+pub enum Comes {
     /// The request of a client with a number.
     Request(u64, u64),
     /// A PrepareOk of node 1 of an epoch, for a place of view 0.
@@ -72,7 +72,7 @@ fn entries(alloc: Global, last: u64) -> Option<Items<Entry>> {
     Some(entries)
 }
 
-fn event(alloc: Global, comes: Comes) -> Option<EpochEvent> {
+pub fn event(alloc: Global, comes: Comes) -> Option<EpochEvent> {
     match comes {
         Comes::Request(client, number) => Some(EpochEvent::Request(entry(alloc, client, number)?)),
         Comes::PrepareOk(epoch, place) => {
