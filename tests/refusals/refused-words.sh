@@ -154,7 +154,7 @@ Options:
 
 The nodes are those of \`desk serve\` or \`desk cluster\` on this host, which were given --port PORT: node I is asked at
 port PORT + 10 + I. One that is silent for 3 seconds is down. Those that are up are asked once more at the end.
-The exit status is 0 where more than half of the nodes are at the greatest place that any node told, and else 1.
+The exit status is 0 where more than half of the nodes are at the greatest place that any node reported, and else 1.
 
 Example: desk status --port 4000 --nodes 3"
 
