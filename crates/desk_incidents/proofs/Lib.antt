@@ -6,6 +6,7 @@ pub mod MovedCalls
 pub mod Listed
 pub mod Outcomes
 pub mod LinkEnds
+pub mod LivePlaces
 pub mod LinkTables
 pub mod FirstLinks
 pub mod MergedSlots

@@ -1,13 +1,14 @@
 -- Links in slots as a list: room made, and the links of one incident read by its places.
 use Rattle.std.proofs.Common.{◌≡◌, ◌∙◌, ◌≢◌, ◌-◌, ◌≤◌, ◌<◌, ◌||◌, ◌==◌, ℕ, suc, List, [], ◌∷◌, ◌++◌}
-use Rattle.std.proofs.Common.{Bool, true, false, Option, Some, None, cond, nat_le, refl, sym, ap, arith}
+use Rattle.std.proofs.Common.{Bool, true, false, Option, Some, None, cond, nat_le, refl, sym, ap, arith, subst, All}
+use Rattle.std.proofs.Common.{is_some, length}
 use Rattle.std.specs.List.{AllByRecursion}
 use Rattle.std.specs.declared.vec.Vec.{Vec}
 use Rattle.std.proofs.lemmas.Bool.{leb-true, leb-false}
 use Rattle.desk_incidents.specs.declared.incident.Incident.{Incident}
 use Rattle.desk_incidents.specs.declared.incident.Linked.{Linked}
 use Rattle.desk_incidents.specs.Links.{new_link, links_of, linked_id, other_end}
-use Rattle.desk_incidents.specs.LinkTable.{touches, IsLinkTable, ids_at, slot_id}
+use Rattle.desk_incidents.specs.LinkTable.{touches, IsLinkTable, live_places, ids_at, slot_id}
 use Rattle.desk_index.specs.Places.{at_in}
 use Rattle.desk_index.specs.Slots.{live, passes, places, standing}
 use Rattle.desk_index.proofs.Slots.{from}
@@ -18,7 +19,12 @@ use Rattle.desk_index.proofs.Slots.{from}
 pub IsLinkTable-reserved : {B : Type 0} (slots : List (Option Linked)) (lists new : List (ℕ × Vec ℕ B)) →
     IsLinkTable slots lists → ((n : ℕ) → at_in n new ≡ at_in n lists) → IsLinkTable slots new
 IsLinkTable-reserved slots lists new h a =
-    record { indexed = λ n. a n ∙ h.indexed n; once = h.once; ordered = h.ordered }
+    record {
+      indexed = λ n. ap (live_places slots) (a n) ∙ h.indexed n;
+      within = λ n. subst (All (λ k. k < length slots)) (sym (a n)) (h.within n);
+      once = h.once;
+      ordered = h.ordered;
+    }
 
 ordered_by : (one other : ℕ) (t : Bool) → nat_le one other ≡ t → one ≢ other →
     (cond {A = Linked} t (record { incident = one; other = other })
@@ -89,8 +95,21 @@ plain n is xs (k ∷ ks) =
     ap (λ m. slot_id n is (standing xs m) ++ ids_at n is xs ks) e
     ∙ ap (λ l. slot_id n is (standing xs (k - 0)) ++ l) (plain n is xs ks)
 
+id_of_live : (n k : ℕ) (is : List Incident) (o : Option Linked) (xs : List (Option Linked)) (ls ks : List ℕ) →
+    standing xs k ≡ o → ids_at n is xs ls ≡ ids_at n is xs ks →
+    ids_at n is xs (cond (is_some o) (k ∷ ls) ls) ≡ ids_at n is xs (k ∷ ks)
+id_of_live n k is None xs ls ks e h = h ∙ sym (ap (λ o. slot_id n is o ++ ids_at n is xs ks) e)
+id_of_live n k is (Some l) xs ls ks e h = ap (λ ids. slot_id n is (standing xs k) ++ ids) h
+
+-- the places of empty slots give nothing
+ids-live : (n : ℕ) (is : List Incident) (xs : List (Option Linked)) (ks : List ℕ) →
+    ids_at n is xs (live_places xs ks) ≡ ids_at n is xs ks
+ids-live n is xs [] = refl
+ids-live n is xs (k ∷ ks) = id_of_live n k is (standing xs k) xs (live_places xs ks) ks refl (ids-live n is xs ks)
+
 -- what the links at the places of a number have beside it, in their order
 pub ids-at : (n : ℕ) (is : List Incident) (xs : List (Option Linked)) (ks : List ℕ) →
-    ks ≡ places (passes (touches n)) 0 xs → ids_at n is xs ks ≡ links_of n is (live xs)
+    live_places xs ks ≡ places (passes (touches n)) 0 xs → ids_at n is xs ks ≡ links_of n is (live xs)
 ids-at n is xs ks h =
-    plain n is xs ks ∙ ap (each_of (λ k. slot_id n is (standing xs (k - 0)))) h ∙ ids-from n 0 is xs
+    sym (ids-live n is xs ks) ∙ plain n is xs (live_places xs ks)
+    ∙ ap (each_of (λ k. slot_id n is (standing xs (k - 0)))) h ∙ ids-from n 0 is xs

@@ -1,67 +1,83 @@
 -- A table of links after one is put last or taken out, and the look-up of a link.
-use Rattle.std.proofs.Common.{◌≡◌, ◌∙◌, ◌+◌, ◌-◌, ◌≤◌, ◌<◌, ◌||◌, ◌&&◌, ◌==◌, ℕ, zero, suc, List, [], ◌∷◌, ◌++◌}
-use Rattle.std.proofs.Common.{length, set, Bool, true, false, not, Option, Some, None, cond, nat_eq, refl, sym}
+use Rattle.std.proofs.Common.{◌≡◌, ◌≢◌, ◌∙◌, ◌+◌, ◌-◌, ◌≤◌, ◌<◌, ◌||◌, ◌&&◌, ◌==◌, ℕ, zero, suc, List, [], ◌∷◌, ◌++◌}
+use Rattle.std.proofs.Common.{length, set, Bool, true, false, not, Option, Some, None, cond, refl, sym}
 use Rattle.std.proofs.Common.{ap, subst, arith, is_some, IfSome, All, append-nil}
 use Rattle.std.specs.declared.vec.Vec.{Vec}
 use Rattle.std.specs.List.{AllByRecursion, list_any, count_by, find}
-use Rattle.std.specs.Set.{remove_key}
 use Rattle.std.proofs.lemmas.Bool.{eqb-true, eq-eqb, or_parts, or_from, and_parts, ne_eqb, or_left, or_right}
 use Rattle.std.proofs.lemmas.Bool.{true≢false}
-use Rattle.std.proofs.lemmas.List.{set-set}
-use Rattle.std.proofs.lemmas.List.Elements.{All-cons, All-head, All-tail}
+use Rattle.std.proofs.lemmas.List.{length-set}
+use Rattle.std.proofs.lemmas.List.Elements.{All-cons, All-head, All-tail, All-weaker}
 use Rattle.std.proofs.lemmas.List.Sums.{sum_by-cons}
 use Rattle.std.proofs.lemmas.Option.{none-some, same_Some}
 use Rattle.desk_incidents.specs.declared.incident.Linked.{Linked}
 use Rattle.desk_incidents.specs.Links.{same_link, has_link, without_link}
 use Rattle.desk_index.specs.Places.{at_in}
-use Rattle.desk_incidents.specs.LinkTable.{touches, IsLinkTable}
+use Rattle.desk_incidents.specs.LinkTable.{touches, live_places, IsLinkTable}
 use Rattle.desk_index.specs.Slots.{live, passes, places, standing}
 use Rattle.desk_index.proofs.Slots.{from, live-push, places-push, places-count}
-use Rattle.desk_index.proofs.SlotChanges.{places-removed, places-apart, count-emptied, All-emptied}
-
--- the places of a number after two removals
-removed_both : (t u : Bool) (k : ℕ) (ps qs : List ℕ) → qs ≡ remove_key (nat_eq k) ps → qs ≡ remove_key (nat_eq k) qs →
-    ((t || u) ≡ false → qs ≡ ps) → (old mid new : List ℕ) → old ≡ ps →
-    mid ≡ cond t (remove_key (nat_eq k) old) old → new ≡ cond u (remove_key (nat_eq k) mid) mid → new ≡ qs
-removed_both true true k ps qs one two none old mid new o m n =
-    n ∙ ap (remove_key (nat_eq k)) (m ∙ ap (remove_key (nat_eq k)) o ∙ sym one) ∙ sym two
-removed_both true false k ps qs one two none old mid new o m n = n ∙ m ∙ ap (remove_key (nat_eq k)) o ∙ sym one
-removed_both false true k ps qs one two none old mid new o m n = n ∙ ap (remove_key (nat_eq k)) (m ∙ o) ∙ sym one
-removed_both false false k ps qs one two none old mid new o m n = n ∙ m ∙ o ∙ sym (none refl)
+use Rattle.desk_index.proofs.SlotChanges.{count-emptied, All-emptied}
+use Rattle.desk_incidents.proofs.LivePlaces.{any-live, live-emptied, live-compacted, within-compacted, live-before}
+use Rattle.desk_incidents.proofs.LivePlaces.{live-put, within-put}
 
 least : (a b c : ℕ) → a ≡ b + c → a ≤ 1 → c ≤ 1
 least a b c e h = omega (arith, e, h)
 
--- one slot emptied, and its place taken from the lists of both ends
+-- one slot emptied, and the lists of both ends compacted
 pub IsLinkTable-cleared : {B : Type 0} (slots : List (Option Linked)) (lists mid new : List (ℕ × Vec ℕ B)) (k : ℕ)
     (l : Linked) →
     IsLinkTable slots lists → standing slots k ≡ Some l →
-    ((n : ℕ) → at_in n mid ≡ cond (l.incident == n) (remove_key (nat_eq k) (at_in n lists)) (at_in n lists)) →
-    ((n : ℕ) → at_in n new ≡ cond (l.other == n) (remove_key (nat_eq k) (at_in n mid)) (at_in n mid)) →
+    ((n : ℕ) → at_in n mid ≡ cond (l.incident == n) (live_places (set slots k None) (at_in n lists)) (at_in n lists)) →
+    ((n : ℕ) → at_in n new ≡ cond (l.other == n) (live_places (set slots k None) (at_in n mid)) (at_in n mid)) →
     IsLinkTable (set slots k None) new
 IsLinkTable-cleared slots lists mid new k l h s a b = record {
   indexed = λ n.
-      let one : places (passes (touches n)) 0 (set slots k None) ≡ remove_key (nat_eq k)
-      (places (passes (touches n)) 0 slots) =
-      subst (λ m. places (passes (touches n)) 0 (set slots k None) ≡ remove_key (nat_eq m)
-      (places (passes (touches n)) 0 slots)) (plain k) (places-removed (touches n) 0 k slots) in
-      let two : places (passes (touches n)) 0 (set slots k None) ≡ remove_key (nat_eq k)
-      (places (passes (touches n)) 0 (set slots k None)) =
-      subst (λ xs. places (passes (touches n)) 0 xs ≡ remove_key (nat_eq k)
-      (places (passes (touches n)) 0 (set slots k None))) (set-set slots k None None)
-      (subst (λ m. places (passes (touches n)) 0 (set (set slots k None) k None) ≡ remove_key (nat_eq m)
-      (places (passes (touches n)) 0 (set slots k None))) (plain k)
-      (places-removed (touches n) 0 k (set slots k None))) in
-      removed_both (l.incident == n) (l.other == n) k (places (passes (touches n)) 0 slots)
-      (places (passes (touches n)) 0 (set slots k None)) one two
-      (λ t. places-apart (touches n) 0 k slots (ap (passes (touches n)) s ∙ t))
-      (at_in n lists) (at_in n mid) (at_in n new) (h.indexed n) (a n) (b n);
+      live-compacted (l.other == n) (set slots k None) (at_in n mid) (at_in n new) (b n)
+      ∙ live-compacted (l.incident == n) (set slots k None) (at_in n lists) (at_in n mid) (a n)
+      ∙ live-emptied (touches n) k slots (at_in n lists) (h.indexed n);
+  within = λ n.
+      subst (λ m. All (λ j. j < m) (at_in n new)) (sym (length-set slots k None))
+      (within-compacted (λ j. j < length slots) (l.other == n) (set slots k None) (at_in n mid) (at_in n new) (b n)
+      (within-compacted (λ j. j < length slots) (l.incident == n) (set slots k None) (at_in n lists) (at_in n mid)
+      (a n) (h.within n)));
   once = λ m. least _ _ _ (count-emptied (λ x. same_link x m) k l slots s) (h.once m);
   ordered = All-emptied (λ x. x.incident < x.other) k slots h.ordered;
 }
-  where
-    plain : (k : ℕ) → 0 + k ≡ k
-    plain k = omega arith
+
+-- the list of a number compacted
+pub IsLinkTable-compacted : {B : Type 0} (slots : List (Option Linked)) (lists new : List (ℕ × Vec ℕ B)) (k : ℕ) →
+    IsLinkTable slots lists →
+    ((n : ℕ) → at_in n new ≡ cond (k == n) (live_places slots (at_in n lists)) (at_in n lists)) → IsLinkTable slots new
+IsLinkTable-compacted slots lists new k h a = record {
+  indexed = λ n. live-compacted (k == n) slots (at_in n lists) (at_in n new) (a n) ∙ h.indexed n;
+  within = λ n.
+      within-compacted (λ j. j < length slots) (k == n) slots (at_in n lists) (at_in n new) (a n) (h.within n);
+  once = h.once;
+  ordered = h.ordered;
+}
+
+compact_at : (s : Bool) (slots : List (Option Linked)) (ks mid : List ℕ) → s ≡ true →
+    mid ≡ cond s (live_places slots ks) ks → mid ≡ live_places slots ks
+compact_at s slots ks mid h e = e ∙ ap (λ t. cond t (live_places slots ks) ks) h
+
+module _ {B : Type 0} (slots : List (Option Linked)) (lists mid new : List (ℕ × Vec ℕ B)) (a b : ℕ) where
+  -- the list that was compacted before another
+  pub first-compact : a ≢ b → IsLinkTable slots lists →
+      ((n : ℕ) → at_in n mid ≡ cond (b == n) (live_places slots (at_in n lists)) (at_in n lists)) →
+      ((n : ℕ) → at_in n new ≡ cond (a == n) (live_places slots (at_in n mid)) (at_in n mid)) →
+      at_in b new ≡ places (passes (touches b)) 0 slots
+  first-compact d h f g =
+      g b ∙ ap (λ t. cond t (live_places slots (at_in b mid)) (at_in b mid)) (ne_eqb a b d)
+      ∙ compact_at (b == b) slots (at_in b lists) (at_in b mid) (eq-eqb b b refl) (f b) ∙ h.indexed b
+
+  -- and the other
+  pub second-compact : IsLinkTable slots lists →
+      ((n : ℕ) → at_in n mid ≡ cond (b == n) (live_places slots (at_in n lists)) (at_in n lists)) →
+      ((n : ℕ) → at_in n new ≡ cond (a == n) (live_places slots (at_in n mid)) (at_in n mid)) →
+      at_in a new ≡ places (passes (touches a)) 0 slots
+  second-compact h f g =
+      compact_at (a == a) slots (at_in a mid) (at_in a new) (eq-eqb a a refl) (g a)
+      ∙ live-compacted (b == a) slots (at_in a lists) (at_in a mid) (f a) ∙ h.indexed a
 
 -- one link and no other passes the test for it
 
@@ -110,6 +126,10 @@ All-last P [] y g h = All-cons P y [] g h
 All-last P (x ∷ xs) y g h =
     All-cons P x (xs ++ y ∷ []) (All-head P x xs h) (All-last P xs y g (All-tail P x xs h))
 
+length_last : (xs : List (Option Linked)) (x : Option Linked) → length (xs ++ x ∷ []) ≡ suc (length xs)
+length_last [] x = refl
+length_last (y ∷ xs) x = ap suc (length_last xs x)
+
 -- a link that is not there put last, and its place put last into the lists of both ends
 pub IsLinkTable-pushed : {B : Type 0} (slots : List (Option Linked)) (lists mid new : List (ℕ × Vec ℕ B)) (l : Linked) →
     IsLinkTable slots lists → has_link l (live slots) ≡ false → l.incident < l.other →
@@ -121,9 +141,21 @@ IsLinkTable-pushed slots lists mid new l h f o a b = record {
       let plain : 0 + length slots ≡ length slots = omega arith in
       pushed_both (l.incident == n) (l.other == n) (length slots) (places (passes (touches n)) 0 slots)
       (λ t. ne_eqb l.other n (λ e. let d : l.incident ≡ n = eqb-true _ _ t in omega (arith, d, e, o)))
-      (at_in n lists) (at_in n mid) (at_in n new) (h.indexed n) (a n) (b n)
+      (live_places (slots ++ Some l ∷ []) (at_in n lists)) (live_places (slots ++ Some l ∷ []) (at_in n mid))
+      (live_places (slots ++ Some l ∷ []) (at_in n new))
+      (live-before (Some l) slots (at_in n lists) (h.within n) ∙ h.indexed n)
+      (live-put (l.incident == n) l slots (at_in n lists) (at_in n mid) (a n))
+      (live-put (l.other == n) l slots (at_in n mid) (at_in n new) (b n))
       ∙ sym (places-push (passes (touches n)) 0 slots (Some l)
       ∙ ap (λ k. places (passes (touches n)) 0 slots ++ cond (touches n l) (k ∷ []) []) plain);
+  within = λ n.
+      let more : length (slots ++ Some l ∷ []) ≡ suc (length slots) = length_last slots (Some l) in
+      within-put (l.other == n) (length slots) (length (slots ++ Some l ∷ [])) (at_in n mid) (at_in n new) (b n)
+      (omega (arith, more))
+      (within-put (l.incident == n) (length slots) (length (slots ++ Some l ∷ [])) (at_in n lists) (at_in n mid) (a n)
+      (omega (arith, more))
+      (All-weaker (λ j. j < length slots) (λ j. j < length (slots ++ Some l ∷ [])) (λ j g. omega (arith, more, g))
+      (at_in n lists) (h.within n)));
   once = λ m.
       subst (λ ls. count_by (λ z. same_link z m) ls ≤ 1) (sym (live-push slots l))
       (once_more (same_link l m) _ (count_by (λ z. same_link z m) (live slots))
@@ -208,10 +240,11 @@ any_plain f (k ∷ ks) =
 -- a link that stands among the places of one of its ends
 pub link-among : (slots : List (Option Linked)) (l : Linked) (n : ℕ) →
     ((m : Linked) → same_link m l ≡ true → touches n m ≡ true) →
-    (ks : List ℕ) → ks ≡ places (passes (touches n)) 0 slots →
+    (ks : List ℕ) → live_places slots ks ≡ places (passes (touches n)) 0 slots →
     is_some (find (λ k. passes (λ m. same_link m l) (standing slots k)) ks) ≡ has_link l (live slots)
 link-among slots l n w ks h =
     find-any (λ k. passes (λ m. same_link m l) (standing slots k)) ks
+    ∙ sym (any-live (λ m. same_link m l) slots ks)
     ∙ ap (list_any (λ k. passes (λ m. same_link m l) (standing slots k))) h
     ∙ any_plain (λ k. passes (λ m. same_link m l) (standing slots k)) (places (passes (touches n)) 0 slots)
     ∙ any-places (λ m. same_link m l) (touches n) w 0 slots
@@ -230,7 +263,7 @@ touches-second l m h =
 
 pub length-at : {B : Type 0} (slots : List (Option Linked)) (lists : List (ℕ × Vec ℕ B)) (n : ℕ) →
     IsLinkTable slots lists →
-    length (at_in n lists) ≡ count_by (touches n) (live slots)
+    length (live_places slots (at_in n lists)) ≡ count_by (touches n) (live slots)
 length-at slots lists n h = ap length (h.indexed n) ∙ places-count (touches n) 0 slots
 
 any_none : (t : Bool) (n m : ℕ) → n ≡ cond t 1 0 + m → n ≡ 0 → (t ≡ false) × (m ≡ 0)

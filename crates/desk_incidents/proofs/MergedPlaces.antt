@@ -1,30 +1,26 @@
 -- The places of the links of two incidents while their slots are merged.
 use Rattle.std.proofs.Common.{◌≡◌, ◌∙◌, ◌+◌, ◌-◌, ◌≤◌, ◌<◌, ◌≢◌, ◌||◌, ◌&&◌, ◌==◌, not, ℕ, zero, suc, List, [], ◌∷◌}
-use Rattle.std.proofs.Common.{◌++◌, length, set, filter, map, Bool, true, false, Option, Some, None, cond, nat_eq, refl}
-use Rattle.std.proofs.Common.{sym, ap, subst, arith, All, is_some}
+use Rattle.std.proofs.Common.{length, set, filter, map, Bool, true, false, Option, Some, None, cond, nat_eq, refl}
+use Rattle.std.proofs.Common.{sym, ap, ap₂, subst, arith, All, is_some}
 use Rattle.std.specs.declared.vec.Vec.{Vec}
-use Rattle.std.specs.Bool.{⊤}
-use Rattle.std.specs.List.{AllByRecursion, count_by, list_any}
-use Rattle.std.specs.Set.{remove_key}
-use Rattle.std.proofs.lemmas.Bool.{eqb-true, eqb-false, cond_both, true≢false}
-use Rattle.std.proofs.lemmas.List.{append_assoc}
-use Rattle.std.proofs.lemmas.List.Elements.{All-nil, All-cons, All-head, All-tail}
+use Rattle.std.specs.List.{count_by, list_any}
+use Rattle.std.proofs.lemmas.Bool.{eqb-true, eqb-false, eq-eqb, ne_eqb, true≢false}
+use Rattle.std.proofs.lemmas.List.Elements.{All-nil, All-cons, All-head, All-tail, filter_agree}
 use Rattle.std.proofs.lemmas.List.Sums.{sum_by-cons}
+use Rattle.std.proofs.lemmas.Option.{none-some}
 use Rattle.desk_incidents.specs.declared.incident.Linked.{Linked}
 use Rattle.desk_incidents.specs.Links.{same_link, has_link, new_link, joins_two, link_after_merge, links_after_merge}
 use Rattle.desk_incidents.specs.LinkTable.{touches, touches_either, far_end, slot_after_merge}
-use Rattle.desk_incidents.specs.LinkTable.{slots_after_merge}
-use Rattle.desk_incidents.specs.LinkTable.{IsLinkTable, IsPlacedElsewhere, IsLinked}
+use Rattle.desk_incidents.specs.LinkTable.{slots_after_merge, live_places, IsLinkTable}
 use Rattle.desk_index.specs.MergedList.{merged}
 use Rattle.desk_index.specs.Places.{at_in}
 use Rattle.desk_index.specs.Slots.{live, passes, places, standing}
 use Rattle.desk_index.proofs.MergedLists.{places-merged}
-use Rattle.desk_index.proofs.Slots.{from, places-count}
-use Rattle.desk_index.proofs.SlotChanges.{places-removed, places-apart, standing-other}
+use Rattle.desk_index.proofs.Slots.{places-count}
 use Rattle.desk_incidents.proofs.FirstLinks.{first_links-once, merged-ordered}
-use Rattle.desk_incidents.proofs.LinkEnds.{touches-elsewhere, touches-far}
+use Rattle.desk_incidents.proofs.LivePlaces.{filter-stricter, live-twice, live-within}
 use Rattle.desk_incidents.proofs.MergedSlots.{merged_slots, places_of, slots-merged, links-merged, none-left}
-use Rattle.desk_incidents.proofs.MergedSlots.{all-come, apart}
+use Rattle.desk_incidents.proofs.MergedSlots.{all-come, apart, others-stay, stood-before, merged-length}
 
 -- 1. the places of both
 
@@ -129,103 +125,15 @@ places-counted a b xs =
     places-count (touches_either b a) 0 xs in
     omega (arith, e, count_either (touches b) (touches a) (live xs))
 
--- 2. the links at places that are left
+-- 2. one slot
 
--- rising places, at each of which such a link stands
-abbrev pub AreLinked : ℕ → ℕ → List ℕ → List (Option Linked) → Type 0
-AreLinked a b [] xs = ⊤
-AreLinked a b (k ∷ ks) xs = IsLinked a b (standing xs k) × AllByRecursion (λ j. suc k ≤ j) ks × AreLinked a b ks xs
-
-linked_set : (a b k : ℕ) (y : Option Linked) (ks : List ℕ) (xs : List (Option Linked)) →
-    AllByRecursion (λ j. suc k ≤ j) ks → AreLinked a b ks xs → AreLinked a b ks (set xs k y)
-linked_set a b k y [] xs h g = tt
-linked_set a b k y (j ∷ ks) xs h g = (
-  subst (IsLinked a b) (sym (standing-other j k y xs (λ e. omega (arith, e, h.0)))) g.0,
-  g.1,
-  linked_set a b k y ks xs h.1 g.2,
-)
-
--- a slot that is written leaves those at later places
-pub linked-left : (a b k : ℕ) (y : Option Linked) (ks : List ℕ) (xs : List (Option Linked)) →
-    AreLinked a b (k ∷ ks) xs → AreLinked a b ks (set xs k y)
-linked-left a b k y ks xs h = linked_set a b k y ks xs h.1 h.2
-
-standing_at : (x : Option Linked) (ys xs : List (Option Linked)) → standing (ys ++ x ∷ xs) (length ys) ≡ x
-standing_at x [] xs = refl
-standing_at x (y ∷ ys) xs = standing_at x ys xs
-
-length_last : (ys : List (Option Linked)) (x : Option Linked) → length (ys ++ x ∷ []) ≡ suc (length ys)
-length_last [] x = refl
-length_last (y ∷ ys) x = ap suc (length_last ys x)
-
-linked_passed : (a b : ℕ) (x : Option Linked) (ys xs : List (Option Linked)) →
-    AreLinked a b (places_of a b (length (ys ++ x ∷ [])) xs) ((ys ++ x ∷ []) ++ xs) →
-    AreLinked a b (places_of a b (suc (length ys)) xs) (ys ++ x ∷ xs)
-linked_passed a b x ys xs h =
-    subst (λ n. AreLinked a b (places_of a b n xs) (ys ++ x ∷ xs)) (length_last ys x)
-    (subst (λ zs. AreLinked a b (places_of a b (length (ys ++ x ∷ [])) xs) zs) (append_assoc ys (x ∷ []) xs) h)
-
-linked_from : (a b : ℕ) (ys xs : List (Option Linked)) → All (λ l. (touches a l && touches b l) ≡ false) (live xs) →
-    AreLinked a b (places_of a b (length ys) xs) (ys ++ xs)
-linked_from a b ys [] h = tt
-linked_from a b ys (None ∷ xs) h = linked_passed a b None ys xs (linked_from a b (ys ++ None ∷ []) xs h)
-linked_from a b ys (Some l ∷ xs) h =
-    let rest : AreLinked a b (places_of a b (suc (length ys)) xs) (ys ++ Some l ∷ xs) =
-    linked_passed a b (Some l) ys xs (linked_from a b (ys ++ Some l ∷ []) xs
-    (All-tail (λ (k : Linked). (touches a k && touches b k) ≡ false) l (live xs) h)) in
-    cond_both (touches_either b a l) (length ys ∷ places_of a b (suc (length ys)) xs)
-    (places_of a b (suc (length ys)) xs) (λ (ks : List ℕ). AreLinked a b ks (ys ++ Some l ∷ xs))
-    (λ t. (
-      (l, standing_at (Some l) ys xs, t, All-head (λ (k : Linked). (touches a k && touches b k) ≡ false) l (live xs) h),
-      from (passes (touches_either b a)) (suc (length ys)) xs,
-      rest,
-    ))
-    (λ _. rest)
-
--- the links at the places of both
-pub linked-places : (a b : ℕ) (xs : List (Option Linked)) → All (λ l. (touches a l && touches b l) ≡ false) (live xs) →
-    AreLinked a b (places_of a b 0 xs) xs
-linked-places a b xs h = linked_from a b [] xs h
-
--- 3. the lists of other incidents
-
-emptied_case : (t : Bool) (n k : ℕ) (slots : List (Option Linked)) (l : Linked) (old new : List ℕ) →
-    standing slots k ≡ Some l → touches n l ≡ t → old ≡ places (passes (touches n)) 0 slots →
-    new ≡ cond t (remove_key (nat_eq k) old) old → new ≡ places (passes (touches n)) 0 (set slots k None)
-emptied_case true n k slots l old new s e o h =
-    let plain : 0 + k ≡ k = omega arith in
-    h ∙ ap (remove_key (nat_eq k)) o
-    ∙ sym (places-removed (touches n) 0 k slots
-    ∙ ap (λ j. remove_key (nat_eq j) (places (passes (touches n)) 0 slots)) plain)
-emptied_case false n k slots l old new s e o h =
-    h ∙ o ∙ sym (places-apart (touches n) 0 k slots (ap (passes (touches n)) s ∙ e))
-
--- the slot of a link is emptied
-pub placed-emptied : {B : Type 0} (a b k : ℕ) (l : Linked) (slots : List (Option Linked))
-    (lists new : List (ℕ × Vec ℕ B)) →
-    IsPlacedElsewhere a b slots lists → standing slots k ≡ Some l → touches_either b a l ≡ true →
-    ((n : ℕ) → at_in n new ≡ cond (far_end a b l == n) (remove_key (nat_eq k) (at_in n lists)) (at_in n lists)) →
-    IsPlacedElsewhere a b (set slots k None) new
-placed-emptied a b k l slots lists new h s t g n d e =
-    emptied_case (far_end a b l == n) n k slots l (at_in n lists) (at_in n new) s (touches-far a b n l d e t)
-    (h n d e) (g n)
-
-set_passes : (q : Option Linked → Bool) (i k : ℕ) (y : Option Linked) (xs : List (Option Linked)) →
-    q y ≡ q (standing xs k) → places q i (set xs k y) ≡ places q i xs
-set_passes q i zero y [] h = refl
-set_passes q i (suc k) y [] h = refl
-set_passes q i zero y (x ∷ xs) h = same_step (q y) (q x) i (places q (suc i) xs) (places q (suc i) xs) h refl
-set_passes q i (suc k) y (x ∷ xs) h =
-    same_step (q x) (q x) i (places q (suc i) (set xs k y)) (places q (suc i) xs) refl (set_passes q (suc i) k y xs h)
-
--- the link of a slot is moved
-pub placed-moved : {B : Type 0} (a b k : ℕ) (l : Linked) (slots : List (Option Linked)) (lists : List (ℕ × Vec ℕ B)) →
-    IsPlacedElsewhere a b slots lists → standing slots k ≡ Some l →
-    IsPlacedElsewhere a b (set slots k (Some (link_after_merge a b l))) lists
-placed-moved a b k l slots lists h s n d e =
-    h n d e
-    ∙ sym (set_passes (passes (touches n)) 0 k (Some (link_after_merge a b l)) slots
-    (touches-elsewhere a b n l d e ∙ ap (passes (touches n)) (sym s)))
+-- an empty slot emptied
+pub set-none : (k : ℕ) (xs : List (Option Linked)) → standing xs k ≡ None → set xs k None ≡ xs
+set-none zero [] h = refl
+set-none (suc k) [] h = refl
+set-none zero (None ∷ xs) h = refl
+set-none zero (Some l ∷ xs) h = absurd (none-some l (sym h))
+set-none (suc k) (x ∷ xs) h = ap (λ ys. x ∷ ys) (set-none k xs h)
 
 not_false : (t : Bool) → not t ≡ true → t ≡ false
 not_false true h = absurd (true≢false (sym h))
@@ -250,55 +158,106 @@ slot-goes a b ends l o t s e h =
     ap (slot_after_merge a b ends) s
     ∙ ap (λ u. cond u None (Some (link_after_merge a b l))) (not_true _ (sym e ∙ h))
 
--- 4. the table after all
+-- 3. the table after all
 
-filter_like : (p q : ℕ → Bool) → ((k : ℕ) → p k ≡ q k) → (ks : List ℕ) → filter p ks ≡ filter q ks
-filter_like p q w [] = refl
-filter_like p q w (k ∷ ks) =
-    ap (λ t. cond t (k ∷ filter p ks) (filter p ks)) (w k)
-    ∙ ap (λ js. cond (q k) (k ∷ js) js) (filter_like p q w ks)
+filter_plain : (xs : List (Option Linked)) (ks : List ℕ) →
+    live_places xs ks ≡ filter (λ k. is_some (standing xs (k - 0))) ks
+filter_plain xs ks =
+    filter_agree (λ k. is_some (standing xs k)) (λ k. is_some (standing xs (k - 0)))
+    (λ k. let plain : k ≡ k - 0 = omega arith in ap (λ j. is_some (standing xs j)) plain) ks
+
+-- the list of both
+listed_both : (a b : ℕ) (slots : List (Option Linked)) → All (λ l. l.incident < l.other) (live slots) →
+    All (λ l. (touches a l && touches b l) ≡ false) (live slots) →
+    live_places (merged_slots a b [] slots) (places_of a b 0 slots)
+    ≡ places (passes (touches b)) 0 (merged_slots a b [] slots)
+listed_both a b slots r p =
+    filter_plain (merged_slots a b [] slots) (places_of a b 0 slots) ∙ sym (all-come a b 0 [] slots r p)
+
+-- the list of another incident
+others_listed : (a b n : ℕ) (slots : List (Option Linked)) (ks : List ℕ) → n ≢ a → n ≢ b →
+    live_places slots ks ≡ places (passes (touches n)) 0 slots →
+    live_places (merged_slots a b [] slots) ks ≡ places (passes (touches n)) 0 (merged_slots a b [] slots)
+others_listed a b n slots ks d e h =
+    sym (filter-stricter (λ k. is_some (standing (merged_slots a b [] slots) k)) (λ k. is_some (standing slots k))
+    (λ k. stood-before a b k [] slots) ks)
+    ∙ ap (live_places (merged_slots a b [] slots)) h
+    ∙ filter_plain (merged_slots a b [] slots) (places (passes (touches n)) 0 slots)
+    ∙ sym (others-stay a b n 0 [] slots d e)
 
 listed_case : (t u : Bool) (a b n : ℕ) (slots : List (Option Linked)) (list old new : List ℕ) → a ≢ b →
     (a == n) ≡ t → (b == n) ≡ u → All (λ l. l.incident < l.other) (live slots) →
     All (λ l. (touches a l && touches b l) ≡ false) (live slots) →
-    list ≡ filter (λ k. is_some (standing (merged_slots a b [] slots) k)) (places_of a b 0 slots) →
-    (n ≢ a → n ≢ b → old ≡ places (passes (touches n)) 0 (merged_slots a b [] slots)) →
-    new ≡ cond t [] (cond u list old) → new ≡ places (passes (touches n)) 0 (merged_slots a b [] slots)
+    list ≡ live_places (merged_slots a b [] slots) (places_of a b 0 slots) →
+    live_places slots old ≡ places (passes (touches n)) 0 slots → new ≡ cond t [] (cond u list old) →
+    live_places (merged_slots a b [] slots) new ≡ places (passes (touches n)) 0 (merged_slots a b [] slots)
 listed_case true u a b n slots list old new d e f r p l o h =
-    h ∙ sym (none-left a b 0 [] slots d)
+    ap (live_places (merged_slots a b [] slots)) h ∙ sym (none-left a b 0 [] slots d)
     ∙ ap (λ m. places (passes (touches m)) 0 (merged_slots a b [] slots)) (eqb-true a n e)
 listed_case false true a b n slots list old new d e f r p l o h =
-    h ∙ l
-    ∙ filter_like (λ k. is_some (standing (merged_slots a b [] slots) k))
-    (λ k. is_some (standing (merged_slots a b [] slots) (k - 0)))
-    (λ k. let plain : k ≡ k - 0 = omega arith in ap (λ j. is_some (standing (merged_slots a b [] slots) j)) plain)
-    (places_of a b 0 slots)
-    ∙ sym (all-come a b 0 [] slots r p)
+    ap (live_places (merged_slots a b [] slots)) (h ∙ l)
+    ∙ live-twice (merged_slots a b [] slots) (places_of a b 0 slots)
+    ∙ listed_both a b slots r p
     ∙ ap (λ m. places (passes (touches m)) 0 (merged_slots a b [] slots)) (eqb-true b n f)
 listed_case false false a b n slots list old new d e f r p l o h =
-    h ∙ o (λ s. eqb-false a n e (sym s)) (λ s. eqb-false b n f (sym s))
+    ap (live_places (merged_slots a b [] slots)) h
+    ∙ others_listed a b n slots old (λ s. eqb-false a n e (sym s)) (λ s. eqb-false b n f (sym s)) o
 
-pub table-merged : {B : Type 0} (a b : ℕ) (slots after : List (Option Linked)) (lists mid new : List (ℕ × Vec ℕ B))
-    (list : List ℕ) → a ≢ b → IsLinkTable slots lists → has_link (new_link a b) (live slots) ≡ false →
-    after ≡ slots_after_merge a b (places_of a b 0 slots) [] slots → IsPlacedElsewhere a b after mid →
-    list ≡ filter (λ k. is_some (standing after k)) (places_of a b 0 slots) →
-    ((n : ℕ) → at_in n new ≡ cond (a == n) [] (cond (b == n) list (at_in n mid))) →
-    IsLinkTable after new × (live after ≡ links_after_merge a b (live slots))
-table-merged a b slots after lists mid new list d h u e o l g =
-    let is : after ≡ merged_slots a b [] slots = e ∙ slots-merged a b slots in
-    let links : live after ≡ links_after_merge a b (live slots) = ap live is ∙ links-merged a b slots lists d h u in (
-      record {
-        indexed = λ n.
-            listed_case (a == n) (b == n) a b n slots list (at_in n mid) (at_in n new) d refl refl h.ordered
-            (apart a b (live slots) d u h.ordered)
-            (l ∙ ap (λ xs. filter (λ k. is_some (standing xs k)) (places_of a b 0 slots)) is)
-            (λ x y. o n x y ∙ ap (places (passes (touches n)) 0) is) (g n)
-            ∙ ap (places (passes (touches n)) 0) (sym is);
-        once = λ m.
-            subst (λ ls. count_by (λ k. same_link k m) ls ≤ 1) (sym links)
-            (first_links-once m (filter joins_two (map (link_after_merge a b) (live slots))));
-        ordered =
-            subst (λ ls. All (λ k. k.incident < k.other) ls) (sym links) (merged-ordered a b (live slots));
-      },
-      links,
-    )
+within_case : (t u : Bool) (n : ℕ) (list old new : List ℕ) → All (λ k. k < n) list → All (λ k. k < n) old →
+    new ≡ cond t [] (cond u list old) → All (λ k. k < n) new
+within_case true u n list old new l o h = subst (All (λ k. k < n)) (sym h) (All-nil (λ (k : ℕ). k < n))
+within_case false true n list old new l o h = subst (All (λ k. k < n)) (sym h) l
+within_case false false n list old new l o h = subst (All (λ k. k < n)) (sym h) o
+
+list_at : (s t : Bool) (list old new : List ℕ) → s ≡ false → t ≡ true → new ≡ cond s [] (cond t list old) → new ≡ list
+list_at s t list old new e f h = h ∙ ap₂ (λ u v. cond u [] (cond v list old)) e f
+
+-- the links that stand
+pub all-merged : {B : Type 0} (a b : ℕ) (slots after : List (Option Linked)) (lists : List (ℕ × Vec ℕ B)) → a ≢ b →
+    IsLinkTable slots lists → has_link (new_link a b) (live slots) ≡ false →
+    after ≡ slots_after_merge a b (places_of a b 0 slots) [] slots →
+    live after ≡ links_after_merge a b (live slots)
+all-merged a b slots after lists d h u made =
+    ap live (made ∙ slots-merged a b slots) ∙ links-merged a b slots lists d h u
+
+module _ {B : Type 0} (a b : ℕ) (slots after : List (Option Linked)) (lists new : List (ℕ × Vec ℕ B)) (list : List ℕ)
+    (distinct : a ≢ b) (table : IsLinkTable slots lists) (unlinked : has_link (new_link a b) (live slots) ≡ false)
+    (made : after ≡ slots_after_merge a b (places_of a b 0 slots) [] slots)
+    (left : list ≡ live_places after (places_of a b 0 slots))
+    (puts : (n : ℕ) → at_in n new ≡ cond (a == n) [] (cond (b == n) list (at_in n lists))) where
+  is : after ≡ merged_slots a b [] slots
+  is = made ∙ slots-merged a b slots
+
+  ones : All (λ l. (touches a l && touches b l) ≡ false) (live slots)
+  ones = apart a b (live slots) distinct unlinked table.ordered
+
+  long : length after ≡ length slots
+  long = ap length is ∙ merged-length a b [] slots
+
+  links : live after ≡ links_after_merge a b (live slots)
+  links = all-merged a b slots after lists distinct table unlinked made
+
+  pub table-merged : IsLinkTable after new
+  table-merged = record {
+    indexed = λ n.
+        subst (λ xs. live_places xs (at_in n new) ≡ places (passes (touches n)) 0 xs) (sym is)
+        (listed_case (a == n) (b == n) a b n slots list (at_in n lists) (at_in n new) distinct refl refl table.ordered
+        ones (left ∙ ap (λ xs. live_places xs (places_of a b 0 slots)) is) (table.indexed n) (puts n));
+    within = λ n.
+        within_case (a == n) (b == n) (length after) list (at_in n lists) (at_in n new)
+        (subst (All (λ k. k < length after)) (sym left) (live-within after (places_of a b 0 slots)))
+        (subst (λ m. All (λ k. k < m) (at_in n lists)) (sym long) (table.within n)) (puts n);
+    once = λ m.
+        subst (λ ls. count_by (λ k. same_link k m) ls ≤ 1) (sym links)
+        (first_links-once m (filter joins_two (map (link_after_merge a b) (live slots))));
+    ordered =
+        subst (λ ls. All (λ k. k.incident < k.other) ls) (sym links) (merged-ordered a b (live slots));
+  }
+
+  -- the list of the other has its links alone
+  pub compact-merged : at_in b new ≡ places (passes (touches b)) 0 after
+  compact-merged =
+      list_at (a == b) (b == b) list (at_in b lists) (at_in b new) (ne_eqb a b distinct) (eq-eqb b b refl) (puts b)
+      ∙ left ∙ ap (λ xs. live_places xs (places_of a b 0 slots)) is
+      ∙ listed_both a b slots table.ordered ones
+      ∙ ap (places (passes (touches b)) 0) (sym is)

@@ -1,5 +1,5 @@
 -- Slots after a merge: the links that stand in them, and where those of each incident are.
-use Rattle.std.proofs.Common.{◌≡◌, ◌∙◌, ◌+◌, ◌-◌, ◌≤◌, ◌<◌, ◌≢◌, ◌||◌, ◌&&◌, ◌==◌, not, ℕ, suc, List, [], ◌∷◌}
+use Rattle.std.proofs.Common.{◌≡◌, ◌∙◌, ◌+◌, ◌-◌, ◌≤◌, ◌<◌, ◌≢◌, ◌||◌, ◌&&◌, ◌==◌, ℕ, zero, suc, List, [], ◌∷◌}
 use Rattle.std.proofs.Common.{◌++◌, length, set, filter, Bool, true, false, Option, Some, None, cond, nat_eq, refl}
 use Rattle.std.proofs.Common.{sym, ap, ap₂, subst, arith, All, append-nil, is_some}
 use Rattle.std.specs.declared.vec.Vec.{Vec}
@@ -13,12 +13,12 @@ use Rattle.desk_incidents.specs.declared.incident.Linked.{Linked}
 use Rattle.desk_incidents.specs.Links.{same_link, has_link, new_link, link_after_merge, links_after_merge}
 use Rattle.desk_incidents.specs.LinkTable.{touches, touches_either, far_end, slot_after_merge, ends_with}
 use Rattle.desk_incidents.specs.LinkTable.{slots_after_merge, IsLinkTable}
-use Rattle.desk_index.specs.MergedList.{merged}
 use Rattle.desk_index.specs.Slots.{live, passes, places, standing}
 use Rattle.desk_index.proofs.Slots.{from}
 use Rattle.desk_incidents.proofs.FirstLinks.{with_link, moved_after, moved_after-none}
 use Rattle.desk_incidents.proofs.LinkEnds.{touches-new_link, touches-both, touches-left}
 use Rattle.desk_incidents.proofs.LinkEnds.{link-preserved, link-moved, new_link-apart, same_link-beside}
+use Rattle.desk_incidents.proofs.LinkEnds.{touches-elsewhere}
 use Rattle.desk_incidents.proofs.LinkTables.{same_link-true, self_same, none-counted, count_last}
 
 -- 1. the slots one after the other
@@ -363,3 +363,63 @@ all-come a b i ends (Some l ∷ xs) r n =
     (All-head (λ k. (touches a k && touches b k) ≡ false) l (live xs) n))
     (λ e. all-come a b (suc i) e xs (All-tail (λ k. k.incident < k.other) l (live xs) r)
     (All-tail (λ k. (touches a k && touches b k) ≡ false) l (live xs) n))
+
+-- 4. the places of other links
+
+stays_here : (t u : Bool) (i : ℕ) (m : Linked) (q : Linked → Bool) (ys : List (Option Linked)) (ks : List ℕ) →
+    q m ≡ t → AllByRecursion (λ k. suc i ≤ k) ks →
+    places (passes q) (suc i) ys ≡ filter (λ k. is_some (standing ys (k - suc i))) ks →
+    places (passes q) i (cond u None (Some m) ∷ ys)
+    ≡ filter (λ k. is_some (standing (cond u None (Some m) ∷ ys) (k - i))) (cond t (i ∷ ks) ks)
+stays_here true u i m q ys ks h f e = preserved_here u i m q ys ks h f e
+stays_here false u i m q ys ks h f e =
+    ap (λ v. cond v (i ∷ places (passes q) (suc i) ys) (places (passes q) (suc i) ys)) (empty_or q u m h)
+    ∙ e ∙ sym (shift i (cond u None (Some m)) ys ks f)
+
+-- the links of another incident are where they were, where they still stand
+pub others-stay : (a b n i : ℕ) (ends : List ℕ) (xs : List (Option Linked)) → n ≢ a → n ≢ b →
+    places (passes (touches n)) i (merged_slots a b ends xs)
+    ≡ filter (λ k. is_some (standing (merged_slots a b ends xs) (k - i))) (places (passes (touches n)) i xs)
+others-stay a b n i ends [] d e = refl
+others-stay a b n i ends (None ∷ xs) d e =
+    others-stay a b n (suc i) ends xs d e
+    ∙ sym (shift i None (merged_slots a b ends xs) (places (passes (touches n)) (suc i) xs)
+    (from (passes (touches n)) (suc i) xs))
+others-stay a b n i ends (Some l ∷ xs) d e =
+    cond_both (touches_either b a l)
+    (slot_after_merge a b ends (Some l) ∷ merged_slots a b (ends_with a b ends (Some l)) xs)
+    (Some l ∷ merged_slots a b ends xs)
+    (λ (ys : List (Option Linked)). places (passes (touches n)) i ys
+    ≡ filter (λ k. is_some (standing ys (k - i))) (places (passes (touches n)) i (Some l ∷ xs)))
+    (λ _. stays_here (touches n l) (list_any (nat_eq (far_end a b l)) ends) i (link_after_merge a b l) (touches n)
+    (merged_slots a b (ends_with a b ends (Some l)) xs) (places (passes (touches n)) (suc i) xs)
+    (touches-elsewhere a b n l d e) (from (passes (touches n)) (suc i) xs)
+    (others-stay a b n (suc i) (ends_with a b ends (Some l)) xs d e))
+    (λ _. stays_here (touches n l) false i l (touches n) (merged_slots a b ends xs)
+    (places (passes (touches n)) (suc i) xs) refl (from (passes (touches n)) (suc i) xs)
+    (others-stay a b n (suc i) ends xs d e))
+
+-- an empty slot stays empty
+pub stood-before : (a b k : ℕ) (ends : List ℕ) (xs : List (Option Linked)) →
+    is_some (standing (merged_slots a b ends xs) k) ≡ true → is_some (standing xs k) ≡ true
+stood-before a b k ends [] h = h
+stood-before a b zero ends (None ∷ xs) h = h
+stood-before a b (suc k) ends (None ∷ xs) h = stood-before a b k ends xs h
+stood-before a b zero ends (Some l ∷ xs) h = refl
+stood-before a b (suc k) ends (Some l ∷ xs) h =
+    cond_both (touches_either b a l)
+    (slot_after_merge a b ends (Some l) ∷ merged_slots a b (ends_with a b ends (Some l)) xs)
+    (Some l ∷ merged_slots a b ends xs)
+    (λ (ys : List (Option Linked)). is_some (standing ys (suc k)) ≡ true → is_some (standing xs k) ≡ true)
+    (λ _. stood-before a b k (ends_with a b ends (Some l)) xs) (λ _. stood-before a b k ends xs) h
+
+-- no slot comes or goes
+pub merged-length : (a b : ℕ) (ends : List ℕ) (xs : List (Option Linked)) →
+    length (merged_slots a b ends xs) ≡ length xs
+merged-length a b ends [] = refl
+merged-length a b ends (None ∷ xs) = ap suc (merged-length a b ends xs)
+merged-length a b ends (Some l ∷ xs) =
+    cond_both (touches_either b a l)
+    (slot_after_merge a b ends (Some l) ∷ merged_slots a b (ends_with a b ends (Some l)) xs)
+    (Some l ∷ merged_slots a b ends xs) (λ (ys : List (Option Linked)). length ys ≡ suc (length xs))
+    (λ _. ap suc (merged-length a b (ends_with a b ends (Some l)) xs)) (λ _. ap suc (merged-length a b ends xs))

@@ -1,6 +1,6 @@
 -- What is noted of links after a merge, and the numbers that have a list and a set.
 use Rattle.std.proofs.Common.{◌≡◌, ◌∙◌, ◌≢◌, ◌||◌, ◌&&◌, ◌==◌, ℕ, List, [], ◌∷◌, Bool, true, false, Option, Some, None}
-use Rattle.std.proofs.Common.{◌<◌, ◌++◌, All}
+use Rattle.std.proofs.Common.{◌<◌, ◌++◌, All, length, suc}
 use Rattle.std.proofs.Common.{cond, filter, nat_eq, refl, sym, ap, ap₂, subst}
 use Rattle.std.specs.List.{list_any}
 use Rattle.std.specs.Map.{keys_of}
@@ -13,20 +13,22 @@ use Rattle.desk_index.proofs.IndexChanges.{has_list-listed}
 use Rattle.desk_incidents.specs.declared.incident.Linked.{Linked}
 use Rattle.desk_incidents.specs.EndSets.{has_end, has_either, joins, AreNoted, keys_of_both}
 use Rattle.desk_incidents.specs.Links.{links_after_merge, without_link}
-use Rattle.desk_incidents.specs.LinkTable.{touches, IsLinkTable}
+use Rattle.desk_incidents.specs.LinkTable.{touches, live_places, IsLinkTable}
 use Rattle.desk_incidents.proofs.LinkTables.{any_plain, any-places}
 use Rattle.desk_incidents.proofs.NotedLinks.{any-swapped, joins-swapped, joins-touches, merged-others, merged-preserved}
 use Rattle.desk_incidents.proofs.NotedLinks.{merged-gone, or_more, or_swapped, and_swapped, any-last, any-without}
 use Rattle.desk_incidents.proofs.EndChanges.{put_ways}
+use Rattle.desk_incidents.proofs.LivePlaces.{any-live}
 use Rattle.desk_index.proofs.Slots.{live-push}
 
 -- 1. the sets after a merge
 
 -- the links at the places of a number
 pub any-at : (p t : Linked → Bool) → ((x : Linked) → p x ≡ true → t x ≡ true) → (xs : List (Option Linked))
-    (ks : List ℕ) → ks ≡ places (passes t) 0 xs → list_any (λ k. passes p (standing xs k)) ks ≡ list_any p (live xs)
+    (ks : List ℕ) → live_places xs ks ≡ places (passes t) 0 xs →
+    list_any (λ k. passes p (standing xs k)) ks ≡ list_any p (live xs)
 any-at p t w xs ks h =
-    ap (list_any (λ k. passes p (standing xs k))) h
+    sym (any-live p xs ks) ∙ ap (list_any (λ k. passes p (standing xs k))) h
     ∙ any_plain (λ k. passes p (standing xs k)) (places (passes t) 0 xs)
     ∙ any-places p t w 0 xs
 
@@ -185,6 +187,16 @@ noted-removed slots left old new l r o e w h n m d =
     w n m ∙ ap (λ t. cond (joins n m l) false t) (h n m d)
     ∙ sym (any-without n m l (live slots) r o)
     ∙ sym (ap (list_any (joins n m)) e)
+
+length_last : (ks : List ℕ) (k : ℕ) → length (ks ++ k ∷ []) ≡ suc (length ks)
+length_last [] k = refl
+length_last (j ∷ ks) k = ap suc (length_last ks k)
+
+-- a far end that was not met is one more
+pub length-noted : (k : ℕ) (old new : List ℕ) → list_any (nat_eq k) old ≡ false →
+    new ≡ cond (list_any (nat_eq k) old) old (old ++ k ∷ []) → length new ≡ suc (length old)
+length-noted k old new h e =
+    ap (λ (ks : List ℕ). length ks) (e ∙ ap (λ t. cond t old (old ++ k ∷ [])) h) ∙ length_last old k
 
 -- 3. the numbers that have a list and a set
 

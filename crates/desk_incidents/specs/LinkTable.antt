@@ -1,6 +1,6 @@
 -- Links in slots, with the slots of each incident.
-use Rattle.std.specs.Prelude.{◌≡◌, ◌≢◌, ◌<◌, ◌≤◌, ℕ, List, [], ◌∷◌, ◌++◌, Bool, ◌||◌, ◌==◌, Option, Some, None}
-use Rattle.std.specs.Prelude.{◌&&◌, true, false, All, count_by, set, nat_eq, if◌then◌else◌}
+use Rattle.std.specs.Prelude.{◌≡◌, ◌<◌, ◌≤◌, ℕ, List, [], ◌∷◌, ◌++◌, Bool, ◌||◌, ◌==◌, Option, Some, None}
+use Rattle.std.specs.Prelude.{All, count_by, filter, is_some, length, set, nat_eq, if◌then◌else◌}
 use Rattle.std.specs.List.{list_any}
 use Rattle.std.specs.declared.vec.Vec.{Vec}
 use Rattle.desk_incidents.specs.declared.incident.Incident.{Incident}
@@ -13,10 +13,16 @@ use Rattle.desk_index.specs.Slots.{live, passes, places, standing}
 abbrev pub touches : ℕ → Linked → Bool
 touches n l = (l.incident == n) || (l.other == n)
 
+-- of places, those at which a link stands
+abbrev pub live_places : List (Option Linked) → List ℕ → List ℕ
+live_places slots ks = filter (λ k. is_some (standing slots k)) ks
+
 -- Slots of links, and the lists of an index.
 pub record IsLinkTable {B : Type 0} (slots : List (Option Linked)) (lists : List (ℕ × Vec ℕ B)) : Type 0 where
-  -- the list of a number has the slots of its links, in their order
-  pub indexed : (n : ℕ) → at_in n lists ≡ places (passes (touches n)) 0 slots
+  -- the list of a number has the slots of its links, in their order, and else empty ones alone
+  pub indexed : (n : ℕ) → live_places slots (at_in n lists) ≡ places (passes (touches n)) 0 slots
+  -- a list has no place of a slot that is still to come
+  pub within : (n : ℕ) → All (λ k. k < length slots) (at_in n lists)
   -- each link is there once
   pub once : (l : Linked) → count_by (λ m. same_link m l) (live slots) ≤ 1
   -- with the smaller number first
@@ -29,16 +35,6 @@ touches_either one other l = touches one l || touches other l
 -- the number that a link has beside those of two incidents, of which one is an end of it
 abbrev pub far_end : ℕ → ℕ → Linked → ℕ
 far_end one other l = if (l.incident == one) || (l.incident == other) then l.other else l.incident
-
--- The list of each number but two has the slots of its links, in their order.
-abbrev pub IsPlacedElsewhere : {B : Type 0} → ℕ → ℕ → List (Option Linked) → List (ℕ × Vec ℕ B) → Type 0
-IsPlacedElsewhere one other slots lists =
-    (n : ℕ) → n ≢ one → n ≢ other → at_in n lists ≡ places (passes (touches n)) 0 slots
-
--- A link of the one or the other of two incidents stands there, and not the link of the two.
-abbrev pub IsLinked : ℕ → ℕ → Option Linked → Type 0
-IsLinked one other o =
-    (l : Linked) × (o ≡ Some l) × (touches_either other one l ≡ true) × ((touches one l && touches other l) ≡ false)
 
 -- what a slot with a link of one of two incidents holds after a merge of the one into the other, where links with these
 -- far ends stand before it

@@ -6,13 +6,12 @@ ghost use Rattle.std.specs.Prelude.{IfOk, IfSome, OnOk, OnErr, find, count_by, v
 ghost use Rattle.std.specs.List.{list_any};
 ghost use Rattle.std.specs.Option.{option_map};
 ghost use Rattle.indexmap.specs.IndexSet.{spare};
-ghost use Rattle.desk_index.specs.Places.{has_list, is_listed};
+ghost use Rattle.desk_index.specs.Places.{at_in, has_list, is_listed};
 ghost use Rattle.desk_index.specs.Slots.{live, passes, places, standing};
 ghost use Rattle.desk_incidents.specs.Links.{same_link, new_link, has_link, without_link, link_after_merge};
 ghost use Rattle.desk_incidents.specs.Links.{links_after_merge, links_of, id_at};
-ghost use Rattle.desk_incidents.specs.LinkTable.{touches, touches_either, far_end, IsLinkTable, IsPlacedElsewhere};
-ghost use Rattle.desk_incidents.specs.LinkTable.{IsLinked, slot_after_merge, ends_with, slots_after_merge};
-ghost use Rattle.desk_incidents.specs.LinkTable.{ids_at, slot_id};
+ghost use Rattle.desk_incidents.specs.LinkTable.{touches, touches_either, far_end, IsLinkTable, live_places};
+ghost use Rattle.desk_incidents.specs.LinkTable.{slot_after_merge, ends_with, slots_after_merge, ids_at, slot_id};
 ghost use Rattle.desk_incidents.specs.EndSets.{has_end, has_either, joins};
 
 use crate::end_sets::{EndSets, put_end};
@@ -21,15 +20,19 @@ use crate::links::{new_link, number_after_merge, other_end, same_link};
 use crate::rows::Rows;
 use desk_index::{Places, clear_slot, merged_list, slot_count, with_room};
 use desk_types::{IncidentId, Items, WantOfMemory, push_within};
-use indexmap::IndexSet;
+use indexmap::{IndexMap, IndexSet};
 use std::alloc::{AllocError, Global};
 use std::marker::Model;
 
 /// The links between incidents. A contract sees them as the list of pairs, in the order in which they came, and as the
 /// numbers that have a list in the index.
 pub(crate) struct Links {
+    /// Those of links that were removed, or that merges dropped, are empty, and are never used again.
     slots: Vec<Option<Linked>>,
+    /// A list may have places of slots that merges of others emptied, half of them and one at most.
     index: Places,
+    /// How many slots of the list of a number merges of others emptied since one of them compacted it.
+    emptied: IndexMap<u64, usize>,
     /// Of two numbers that are linked, the set of one has the other.
     ends: EndSets,
 }
@@ -40,6 +43,7 @@ impl Drop for Links {
         let Links {
             slots: _,
             index: _,
+            emptied: _,
             ends: _,
         } = self;
     }
@@ -130,7 +134,50 @@ fn slot_of(slots: &[Option<Linked>], index: &Places, link: Linked) -> Option<usi
     }
 }
 
-/// Empties the slot of a link.
+/// What stands in a slot.
+fn link_in(slots: &[Option<Linked>], slot: usize) -> Option<Linked>
+    ensures { result ≡ standing slots.now slot }
+{
+    match slots.get(slot) {
+        Some(Some(link)) => Some(*link),
+        _ => None,
+    }
+}
+
+/// Takes the places of empty slots out.
+fn drop_empty(list: &mut Vec<usize>, slots: &[Option<Linked>])
+    ensures { list.new.items ≡ live_places slots.now list.old.items }
+{
+    list.retain(|place| link_in(slots, *place).is_some());
+}
+
+/// How many of the slots at places are not empty.
+fn live_count(slots: &[Option<Linked>], among: &[usize]) -> usize
+    ensures count { result ≡ length (live_places slots.now among.now) }
+    ensures most { result ≤ length among.now }
+{
+    let mut count = 0;
+    for place in among {
+        if link_in(slots, *place).is_some() {
+            count += 1;
+        }
+    }
+    count
+}
+
+/// Takes the places of empty slots out of the list of a number.
+fn compact_list(index: &mut Places, slots: &[Option<Linked>], number: u64)
+    ensures lists { (n : ℕ) → at_in n index.new.lists.entries
+        ≡ (if number == n then live_places slots.now (at_in n index.old.lists.entries)
+        else at_in n index.old.lists.entries) }
+    ensures preserved { (n : ℕ) → has_list n index.new.lists.entries ≡ has_list n index.old.lists.entries }
+{
+    if let Some(at) = index.lists.get_index_of(&number) {
+        drop_empty(&mut index.lists[at], slots);
+    }
+}
+
+/// Empties the slot of a link, and takes the places of empty slots out of the lists of both ends.
 fn vacate_slot(slots: &mut Vec<Option<Linked>>, index: &mut Places, slot: usize, link: Linked)
     requires table { IsLinkTable slots.old.items index.old.lists.entries }
     requires there { standing slots.old.items slot ≡ Some link }
@@ -139,8 +186,8 @@ fn vacate_slot(slots: &mut Vec<Option<Linked>>, index: &mut Places, slot: usize,
     ensures preserved { (n : ℕ) → has_list n index.new.lists.entries ≡ has_list n index.old.lists.entries }
 {
     slots[slot] = None;
-    index.remove(link.incident, slot);
-    index.remove(link.other, slot);
+    compact_list(index, slots, link.incident);
+    compact_list(index, slots, link.other);
 }
 
 /// A link after a merge.
@@ -176,44 +223,140 @@ fn note_end(ends: &mut IndexSet<u64>, end: u64) -> bool
     put.unwrap()
 }
 
-/// Moves the link of a slot from one incident to another, one of which it touches. Where a link with its far end stands
-/// earlier, its slot is emptied. The lists of these two incidents stay as they are.
+/// Whether a far end was met before. One that was not is noted, for which there is room.
+fn was_met(ends: &mut IndexSet<u64>, end: u64) -> bool
+    requires { 0 < spare ends.old }
+    ensures room { spare ends.old ≤ spare ends.new + 1 }
+    ensures all { spare ends.old + length ends.old.keys ≤ spare ends.new + length ends.new.keys }
+{
+    if ends.contains(&end) {
+        true
+    } else {
+        note_end(ends, end);
+        false
+    }
+}
+
+/// Counts one more up to a bound, where it tells so and begins again.
+fn count_up(count: &mut usize, most: usize) -> bool {
+    if *count < most {
+        *count += 1;
+        false
+    } else {
+        *count = 0;
+        true
+    }
+}
+
+/// Begins the count of a number, where it has none and there is memory for one.
+fn begin_count(emptied: &mut IndexMap<u64, usize>, number: u64) {
+    if emptied.get_index_of(&number).is_none() {
+        let _begun = emptied.insert(number, 0);
+    }
+}
+
+/// Counts one more slot of the list of a number, and tells whether half of its places may be of empty ones. A list that
+/// has no count may be such a one.
+fn is_half_empty(emptied: &mut IndexMap<u64, usize>, number: u64, places: usize) -> bool {
+    match emptied.get_index_of(&number) {
+        Some(at) => count_up(&mut emptied[at], places / 2),
+        None => true,
+    }
+}
+
+/// Takes the places of empty slots out of the list of a far end of which a merge empties a slot, where they may be half
+/// of it. So each of them is paid once, and a list has as many links.
+fn thin_list(
+    slots: &[Option<Linked>],
+    index: &mut Places,
+    emptied: &mut IndexMap<u64, usize>,
+    end: u64,
+)
+    requires { IsLinkTable slots.now index.old.lists.entries }
+    ensures table { IsLinkTable slots.now index.new.lists.entries }
+    ensures preserved { (n : ℕ) → has_list n index.new.lists.entries ≡ has_list n index.old.lists.entries }
+{
+    if is_half_empty(emptied, end, index.at(end).len()) {
+        compact_list(index, slots, end);
+    }
+}
+
+/// Thins the list of the far end of a link of one of two incidents, where a link of the other has it too.
+fn thin_far_end(
+    slots: &[Option<Linked>],
+    index: &mut Places,
+    emptied: &mut IndexMap<u64, usize>,
+    ends: &mut IndexSet<u64>,
+    end: u64,
+)
+    requires table { IsLinkTable slots.now index.old.lists.entries }
+    requires room { 0 < spare ends.old }
+    ensures table { IsLinkTable slots.now index.new.lists.entries }
+    ensures preserved { (n : ℕ) → has_list n index.new.lists.entries ≡ has_list n index.old.lists.entries }
+    ensures room { spare ends.old ≤ spare ends.new + 1 }
+    ensures all { spare ends.old + length ends.old.keys ≤ spare ends.new + length ends.new.keys }
+{
+    if was_met(ends, end) {
+        thin_list(slots, index, emptied, end);
+    }
+}
+
+/// The far end of the link of a slot of one of two incidents, or the one where none stands there.
+fn far_end_at(slots: &[Option<Linked>], slot: usize, one: u64, other: u64) -> u64 {
+    match link_in(slots, slot) {
+        Some(link) => far_end(&link, one, other),
+        None => one,
+    }
+}
+
+/// Thins the lists of the far ends that two incidents have in common, before a merge empties a slot of each.
+fn thin_lists(
+    slots: &[Option<Linked>],
+    index: &mut Places,
+    emptied: &mut IndexMap<u64, usize>,
+    ends: &mut IndexSet<u64>,
+    from: u64,
+    to: u64,
+    among: &[usize],
+)
+    requires table { IsLinkTable slots.now index.old.lists.entries }
+    requires room { length among.now ≤ spare ends.old }
+    ensures table { IsLinkTable slots.now index.new.lists.entries }
+    ensures preserved { (n : ℕ) → has_list n index.new.lists.entries ≡ has_list n index.old.lists.entries }
+    ensures all { spare ends.old + length ends.old.keys ≤ spare ends.new + length ends.new.keys }
+{
+    for place in among {
+        thin_far_end(
+            slots,
+            index,
+            emptied,
+            ends,
+            far_end_at(slots, *place, from, to),
+        );
+    }
+}
+
+/// Moves the link of a slot from one incident to another. Where a link with its far end stands earlier, its slot is
+/// emptied, and stays in the list of the far end.
 fn merge_slot(
     slots: &mut Vec<Option<Linked>>,
-    index: &mut Places,
     ends: &mut IndexSet<u64>,
     from: u64,
     to: u64,
     slot: usize,
     link: Linked,
 )
-    requires placed { IsPlacedElsewhere from to slots.old.items index.old.lists.entries }
     requires there { standing slots.old.items slot ≡ Some link }
-    requires touches { touches_either to from link ≡ true }
     requires room { 0 < spare ends.old }
     ensures slots { slots.new.items
         ≡ set slots.old.items slot (slot_after_merge from to ends.old.keys (standing slots.old.items slot)) }
     ensures ends { ends.new.keys ≡ ends_with from to ends.old.keys (standing slots.old.items slot) }
     ensures room { spare ends.old ≤ spare ends.new + 1 }
-    ensures placed { IsPlacedElsewhere from to slots.new.items index.new.lists.entries }
-    ensures preserved { (n : ℕ) → has_list n index.new.lists.entries ≡ has_list n index.old.lists.entries }
 {
-    let end = far_end(&link, from, to);
-    if note_end(ends, end) {
+    if note_end(ends, far_end(&link, from, to)) {
         slots[slot] = Some(moved(link, from, to));
     } else {
         clear_slot(slots, slot);
-        index.remove(end, slot);
-    }
-}
-
-/// What stands in a slot.
-fn link_in(slots: &[Option<Linked>], slot: usize) -> Option<Linked>
-    ensures { result ≡ standing slots.now slot }
-{
-    match slots.get(slot) {
-        Some(Some(link)) => Some(*link),
-        _ => None,
     }
 }
 
@@ -229,60 +372,63 @@ fn remove_link(slots: &mut Vec<Option<Linked>>, index: &mut Places, link: Linked
     }
 }
 
-/// Moves the link of a slot as `merge_slot` does.
+/// Moves the link of a slot, where one stands there, as `merge_slot` does.
 fn merge_place(
     slots: &mut Vec<Option<Linked>>,
-    index: &mut Places,
     ends: &mut IndexSet<u64>,
     from: u64,
     to: u64,
     slot: usize,
 )
-    requires placed { IsPlacedElsewhere from to slots.old.items index.old.lists.entries }
-    requires linked { IsLinked from to (standing slots.old.items slot) }
-    requires room { 0 < spare ends.old }
+    requires { 0 < spare ends.old }
     ensures slots { slots.new.items
         ≡ set slots.old.items slot (slot_after_merge from to ends.old.keys (standing slots.old.items slot)) }
     ensures ends { ends.new.keys ≡ ends_with from to ends.old.keys (standing slots.old.items slot) }
     ensures room { spare ends.old ≤ spare ends.new + 1 }
-    ensures placed { IsPlacedElsewhere from to slots.new.items index.new.lists.entries }
-    ensures preserved { (n : ℕ) → has_list n index.new.lists.entries ≡ has_list n index.old.lists.entries }
 {
     if let Some(link) = link_in(slots, slot) {
-        merge_slot(slots, index, ends, from, to, slot, link);
+        merge_slot(slots, ends, from, to, slot, link);
     }
 }
 
-/// Moves the links of the slots of two incidents, of which none joins the two, from the one to the other. The lists of
-/// these two stay as they are.
+/// Moves the links of the slots of two incidents from the one to the other. The lists stay as they are.
 fn merge_slots(
     slots: &mut Vec<Option<Linked>>,
-    index: &mut Places,
     ends: &mut IndexSet<u64>,
     from: u64,
     to: u64,
     among: &[usize],
 )
-    requires table { IsLinkTable slots.old.items index.old.lists.entries }
-    requires apart { from ≢ to }
-    requires unlinked { has_link (new_link from to) (live slots.old.items) ≡ false }
-    requires all { among.now ≡ places (passes (touches_either to from)) 0 slots.old.items }
     requires none { ends.old.keys ≡ [] }
     requires room { length among.now ≤ spare ends.old }
-    ensures slots { slots.new.items ≡ slots_after_merge from to among.now [] slots.old.items }
-    ensures placed { IsPlacedElsewhere from to slots.new.items index.new.lists.entries }
-    ensures preserved { (n : ℕ) → has_list n index.new.lists.entries ≡ has_list n index.old.lists.entries }
+    ensures { slots.new.items ≡ slots_after_merge from to among.now [] slots.old.items }
 {
     for place in among {
-        merge_place(slots, index, ends, from, to, *place);
+        merge_place(slots, ends, from, to, *place);
     }
 }
 
-/// Takes the places of empty slots out.
-fn drop_empty(list: &mut Vec<usize>, slots: &[Option<Linked>])
-    ensures { list.new.items ≡ filter (λ k. is_some (standing slots.now k)) list.old.items }
+/// The slots of the links of two incidents that are not linked in one list, in the room that was made for it. The lists
+/// of both lose the places of empty slots. It takes no memory.
+fn list_of_both(
+    slots: &[Option<Linked>],
+    index: &mut Places,
+    from: u64,
+    to: u64,
+    room: Vec<usize>,
+) -> Vec<usize>
+    requires table { IsLinkTable slots.now index.old.lists.entries }
+    requires apart { from ≢ to }
+    requires unlinked { has_link (new_link from to) (live slots.now) ≡ false }
+    requires room { count_by (touches to) (live slots.now) + count_by (touches from) (live slots.now)
+        ≤ vec_capacity room }
+    ensures list { result.items ≡ places (passes (touches_either to from)) 0 slots.now }
+    ensures table { IsLinkTable slots.now index.new.lists.entries }
+    ensures preserved { (n : ℕ) → has_list n index.new.lists.entries ≡ has_list n index.old.lists.entries }
 {
-    list.retain(|place| link_in(slots, *place).is_some());
+    compact_list(index, slots, to);
+    compact_list(index, slots, from);
+    merged_list(room, index.at(to), index.at(from))
 }
 
 /// Moves all links of one incident to another, with which it is not linked, in the room that was prepared for them.
@@ -290,6 +436,7 @@ fn drop_empty(list: &mut Vec<usize>, slots: &[Option<Linked>])
 fn merge_lists(
     slots: &mut Vec<Option<Linked>>,
     index: &mut Places,
+    emptied: &mut IndexMap<u64, usize>,
     from: u64,
     to: u64,
     room: ListRoom,
@@ -301,6 +448,7 @@ fn merge_lists(
     requires room { count_by (touches to) (live slots.old.items) + count_by (touches from) (live slots.old.items)
         ≤ room }
     ensures table { IsLinkTable slots.new.items index.new.lists.entries }
+    ensures compact { at_in to index.new.lists.entries ≡ places (passes (touches to)) 0 slots.new.items }
     ensures links { live slots.new.items ≡ links_after_merge from to (live slots.old.items) }
     ensures preserved { (n : ℕ) → has_list n index.new.lists.entries ≡ has_list n index.old.lists.entries }
 {
@@ -309,8 +457,10 @@ fn merge_lists(
         mut ends,
     } = room;
     ends.clear();
-    let mut list = merged_list(places, index.at(to), index.at(from));
-    merge_slots(slots, index, &mut ends, from, to, list.as_slice());
+    let mut list = list_of_both(slots, index, from, to, places);
+    thin_lists(slots, index, emptied, &mut ends, from, to, list.as_slice());
+    ends.clear();
+    merge_slots(slots, &mut ends, from, to, list.as_slice());
     drop_empty(&mut list, slots);
     index.put_list(to, list);
     index.empty_list(from);
@@ -320,6 +470,7 @@ fn merge_lists(
 fn merge_links(
     slots: &mut Vec<Option<Linked>>,
     index: &mut Places,
+    emptied: &mut IndexMap<u64, usize>,
     from: u64,
     to: u64,
     room: ListRoom,
@@ -330,11 +481,12 @@ fn merge_links(
     requires room { count_by (touches to) (live slots.old.items) + count_by (touches from) (live slots.old.items)
         ≤ room }
     ensures table { IsLinkTable slots.new.items index.new.lists.entries }
+    ensures compact { at_in to index.new.lists.entries ≡ places (passes (touches to)) 0 slots.new.items }
     ensures links { live slots.new.items ≡ links_after_merge from to (live slots.old.items) }
     ensures preserved { (n : ℕ) → has_list n index.new.lists.entries ≡ has_list n index.old.lists.entries }
 {
     remove_link(slots, index, new_link(from, to));
-    merge_lists(slots, index, from, to, room);
+    merge_lists(slots, index, emptied, from, to, room);
 }
 
 /// Puts what a link has beside a number into a set, which has room for it.
@@ -437,6 +589,7 @@ impl Links {
         Links {
             slots: Vec::new(alloc),
             index: Places::new(alloc),
+            emptied: IndexMap::new(alloc),
             ends: EndSets::new(alloc),
         }
     }
@@ -479,7 +632,8 @@ impl Links {
         ensures { IfOk result (λ room. count_by (touches one) self.now.pairs + count_by (touches other) self.now.pairs
             ≤ room) }
     {
-        let count = self.index.at(one).len() + self.index.at(other).len();
+        let count = live_count(&self.slots, self.index.at(one))
+            + live_count(&self.slots, self.index.at(other));
         let list = ListRoom {
             slots: with_room(self.index.alloc, count)?,
             ends: IndexSet::with_capacity(self.index.alloc, count)?,
@@ -503,6 +657,8 @@ impl Links {
         self.slots.reserve(1)?;
         self.index.reserve(link.incident)?;
         self.index.reserve(link.other)?;
+        begin_count(&mut self.emptied, link.incident);
+        begin_count(&mut self.emptied, link.other);
         let slot = slot_count(&self.slots);
         push_within(&mut self.slots, Some(link));
         self.index.push(link.incident, slot);
@@ -522,7 +678,8 @@ impl Links {
         }
     }
 
-    /// Moves all links of one incident to another, whose list takes the room that was made for it. It takes no memory.
+    /// Moves all links of one incident to another, whose list takes the room that was made for it. It takes memory for
+    /// a count alone, and does without where that is refused.
     pub(crate) fn merge(&mut self, from: u64, to: u64, room: LinksRoom)
         requires apart { from ≢ to }
         requires listed { is_listed to self.old.listed ≡ true }
@@ -533,8 +690,16 @@ impl Links {
     {
         let LinksRoom { list, mut ends } = room;
         ends.clear();
+        begin_count(&mut self.emptied, to);
         forget_all(&mut self.ends, &self.slots, self.index.at(from), from);
-        merge_links(&mut self.slots, &mut self.index, from, to, list);
+        merge_links(
+            &mut self.slots,
+            &mut self.index,
+            &mut self.emptied,
+            from,
+            to,
+            list,
+        );
         note_all(&mut ends, &self.slots, self.index.at(to), to);
         self.ends.put(to, ends);
         self.ends.empty(from);

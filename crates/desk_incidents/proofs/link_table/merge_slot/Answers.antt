@@ -1,12 +1,10 @@
-use Rattle.std.proofs.Common.{◌∙◌, ◌==◌, ◌++◌, ◌∷◌, ℕ, List, [], Option, Some, cond, not, nat_eq, set}
-use Rattle.std.proofs.Common.{sym, ap, subst}
+use Rattle.std.proofs.Common.{◌∙◌, ◌++◌, ◌∷◌, ℕ, [], Option, Some, cond, not, nat_eq, set}
+use Rattle.std.proofs.Common.{sym, ap}
 use Rattle.std.specs.List.{list_any}
-use Rattle.std.specs.Set.{remove_key}
 use Rattle.desk_incidents.specs.declared.incident.Linked.{Linked}
-use Rattle.desk_incidents.specs.LinkTable.{ends_with, IsPlacedElsewhere}
-use Rattle.desk_index.specs.Places.{at_in}
+use Rattle.desk_incidents.specs.LinkTable.{ends_with}
 use Rattle.desk_index.proofs.SlotChanges.{standing-within}
-use Rattle.desk_incidents.proofs.MergedPlaces.{placed-emptied, placed-moved, slot-stays, slot-goes}
+use Rattle.desk_incidents.proofs.MergedPlaces.{slot-stays, slot-goes}
 use Rattle.desk_incidents.proofs.link_table.merge_slot.Goals as goal
 
 pub returns-then-note_end-clause-slots : goal.returns-then-note_end-clause-slots
@@ -15,21 +13,14 @@ returns-then-note_end-clause-slots c =
     (ap Some c.moved.ensures
     ∙ sym (slot-stays c.args.from c.args.to c.args.ends.now.keys c.args.link _ c.note_end.result c.requires.there
     (c.note_end.ensures.new
-    ∙ ap (λ e. not (list_any (nat_eq e) c.args.ends.now.keys)) c.far_end-end.ensures) c.if-note_end.true))
+    ∙ ap (λ e. not (list_any (nat_eq e) c.args.ends.now.keys)) c.far_end.ensures) c.if-note_end.true))
 
 pub returns-then-note_end-clause-ends : goal.returns-then-note_end-clause-ends
 returns-then-note_end-clause-ends c =
     c.note_end.ensures.ends
     ∙ ap (λ (e : ℕ). cond (list_any (nat_eq e) c.args.ends.now.keys) c.args.ends.now.keys
-    (c.args.ends.now.keys ++ e ∷ [])) c.far_end-end.ensures
+    (c.args.ends.now.keys ++ e ∷ [])) c.far_end.ensures
     ∙ sym (ap (ends_with c.args.from c.args.to c.args.ends.now.keys) c.requires.there)
-
-pub returns-then-note_end-clause-placed : goal.returns-then-note_end-clause-placed
-returns-then-note_end-clause-placed c =
-    subst (λ (m : Linked). IsPlacedElsewhere c.args.from c.args.to (set c.args.slots.now.items c.args.slot (Some m))
-    c.args.index.now.lists.entries) (sym c.moved.ensures)
-    (placed-moved c.args.from c.args.to c.args.slot c.args.link c.args.slots.now.items
-    c.args.index.now.lists.entries c.requires.placed c.requires.there)
 
 pub clear_slot-requires : goal.clear_slot-requires
 clear_slot-requires c = standing-within c.args.slot c.args.link c.args.slots.now.items c.requires.there
@@ -40,22 +31,11 @@ returns-else-note_end-clause-slots c =
     ∙ ap (λ (o : Option Linked). set c.args.slots.now.items c.args.slot o)
     (sym (slot-goes c.args.from c.args.to c.args.ends.now.keys c.args.link _ c.note_end.result c.requires.there
     (c.note_end.ensures.new
-    ∙ ap (λ e. not (list_any (nat_eq e) c.args.ends.now.keys)) c.far_end-end.ensures) c.if-note_end.false))
+    ∙ ap (λ e. not (list_any (nat_eq e) c.args.ends.now.keys)) c.far_end.ensures) c.if-note_end.false))
 
 pub returns-else-note_end-clause-ends : goal.returns-else-note_end-clause-ends
 returns-else-note_end-clause-ends c =
     c.note_end.ensures.ends
     ∙ ap (λ (e : ℕ). cond (list_any (nat_eq e) c.args.ends.now.keys) c.args.ends.now.keys
-    (c.args.ends.now.keys ++ e ∷ [])) c.far_end-end.ensures
+    (c.args.ends.now.keys ++ e ∷ [])) c.far_end.ensures
     ∙ sym (ap (ends_with c.args.from c.args.to c.args.ends.now.keys) c.requires.there)
-
-pub returns-else-note_end-clause-placed : goal.returns-else-note_end-clause-placed
-returns-else-note_end-clause-placed c =
-    subst (λ (xs : List (Option Linked)). IsPlacedElsewhere c.args.from c.args.to xs c.remove.new.self.lists.entries)
-    (sym c.clear_slot.ensures.items)
-    (placed-emptied c.args.from c.args.to c.args.slot c.args.link c.args.slots.now.items
-    c.args.index.now.lists.entries c.remove.new.self.lists.entries c.requires.placed c.requires.there
-    c.requires.touches
-    (λ n. c.remove.ensures.lists n
-    ∙ ap (λ (e : ℕ). cond (e == n) (remove_key (nat_eq c.args.slot) (at_in n c.args.index.now.lists.entries))
-    (at_in n c.args.index.now.lists.entries)) c.far_end-end.ensures))

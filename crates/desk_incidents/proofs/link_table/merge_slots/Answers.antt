@@ -1,33 +1,16 @@
 use Rattle.std.proofs.Common.{◌≡◌, ◌∙◌, ◌+◌, ◌∷◌, ℕ, List, Option, drop, length, slice_index_or, refl, sym, ap}
-use Rattle.std.proofs.Common.{subst, arith}
+use Rattle.std.proofs.Common.{arith}
 use Rattle.std.proofs.lemmas.List.{drop_more, drop_all}
 use Rattle.desk_incidents.specs.declared.incident.Linked.{Linked}
-use Rattle.desk_incidents.specs.LinkTable.{ends_with, slot_after_merge, slots_after_merge}
+use Rattle.desk_incidents.specs.LinkTable.{ends_with, slots_after_merge}
 use Rattle.desk_index.specs.Slots.{standing}
-use Rattle.desk_incidents.proofs.MergedSlots.{apart}
-use Rattle.desk_incidents.proofs.MergedPlaces.{AreLinked, linked-left, linked-places}
 use Rattle.desk_incidents.proofs.link_table.merge_slots.Goals as goal
 
 pub loop-place-init : goal.loop-place-init
-loop-place-init c = record {
-  made = refl;
-  left =
-      subst (λ (ks : List ℕ). AreLinked c.args.from c.args.to ks c.args.slots.now.items) (sym c.requires.all)
-      (linked-places c.args.from c.args.to c.args.slots.now.items
-      (apart c.args.from c.args.to _ c.requires.apart c.requires.unlinked c.requires.table.ordered));
-  room = c.requires.room;
-  placed = λ n _ _. c.requires.table.indexed n;
-  preserved = λ n. refl;
-}
+loop-place-init c = record { made = refl; room = c.requires.room }
 
-pub merge_place-requires-clause-linked : goal.merge_place-requires-clause-linked
-merge_place-requires-clause-linked c =
-    (subst (λ (ks : List ℕ). AreLinked c.args.from c.args.to ks c.loop-place.slots.items)
-    (drop_more c.args.among.now c.loop-place.place-index 0 (omega (arith, c.loop-place-test.true)))
-    c.loop-place.invariant.left).0
-
-pub merge_place-requires-clause-room : goal.merge_place-requires-clause-room
-merge_place-requires-clause-room c =
+pub merge_place-requires : goal.merge_place-requires
+merge_place-requires c =
     let more : length (drop c.loop-place.place-index c.args.among.now)
     ≡ length (slice_index_or c.args.among.now c.loop-place.place-index 0
     ∷ drop (c.loop-place.place-index + 1) c.args.among.now) =
@@ -53,21 +36,11 @@ loop-place-preserved c =
           ∙ sym (ap (λ (ks : List ℕ). slots_after_merge c.args.from c.args.to ks c.loop-place.ends.keys
           c.loop-place.slots.items) first)
           ∙ c.loop-place.invariant.made;
-      left =
-          subst (λ (xs : List (Option Linked)). AreLinked c.args.from c.args.to rest xs)
-          (sym c.merge_place.ensures.slots)
-          (linked-left c.args.from c.args.to place
-          (slot_after_merge c.args.from c.args.to c.loop-place.ends.keys (standing c.loop-place.slots.items place))
-          rest c.loop-place.slots.items
-          (subst (λ (ks : List ℕ). AreLinked c.args.from c.args.to ks c.loop-place.slots.items) first
-          c.loop-place.invariant.left));
       room = omega (arith, more, c.loop-place.invariant.room, c.merge_place.ensures.room);
-      placed = c.merge_place.ensures.placed;
-      preserved = λ n. c.merge_place.ensures.preserved n ∙ c.loop-place.invariant.preserved n;
     }
 
-pub returns-clause-slots : goal.returns-clause-slots
-returns-clause-slots c =
+pub returns : goal.returns
+returns c =
     sym (ap (λ (ks : List ℕ). slots_after_merge c.args.from c.args.to ks c.loop-place.ends.keys
     c.loop-place.slots.items)
     (drop_all c.loop-place.place-index c.args.among.now (omega (arith, c.loop-place-test.false))))

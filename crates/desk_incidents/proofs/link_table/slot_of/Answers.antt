@@ -1,5 +1,6 @@
 use Rattle.std.proofs.Common.{◌≡◌, ◌∙◌, ℕ, Option, Some, IfSome, is_some, subst, ap, sym}
 use Rattle.desk_incidents.specs.Links.{same_link}
+use Rattle.desk_incidents.specs.LinkTable.{live_places}
 use Rattle.desk_index.specs.Slots.{passes, standing}
 use Rattle.desk_incidents.proofs.LinkTables.{found-passes, passes-link, link-among, touches-first, touches-second}
 use Rattle.desk_incidents.proofs.link_table.slot_of.Goals as goal
@@ -15,7 +16,7 @@ pub returns-then-one-other-clause-there : goal.returns-then-one-other-clause-the
 returns-then-one-other-clause-there c =
     ap (λ (o : Option ℕ). is_some o) c.slot_among.ensures
     ∙ link-among c.args.slots.now c.args.link c.args.link.incident (touches-first c.args.link) c.at-one.result.now
-    (c.at-one.ensures ∙ c.requires.indexed c.args.link.incident)
+    (ap (live_places c.args.slots.now) c.at-one.ensures ∙ c.requires.indexed c.args.link.incident)
 
 pub returns-else-one-other-clause-found : goal.returns-else-one-other-clause-found
 returns-else-one-other-clause-found c =
@@ -29,4 +30,4 @@ pub returns-else-one-other-clause-there : goal.returns-else-one-other-clause-the
 returns-else-one-other-clause-there c =
     ap (λ (o : Option ℕ). is_some o) c.slot_among-else-one-other.ensures
     ∙ link-among c.args.slots.now c.args.link c.args.link.other (touches-second c.args.link) c.at-other.result.now
-    (c.at-other.ensures ∙ c.requires.indexed c.args.link.other)
+    (ap (live_places c.args.slots.now) c.at-other.ensures ∙ c.requires.indexed c.args.link.other)

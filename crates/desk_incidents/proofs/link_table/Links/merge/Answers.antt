@@ -11,7 +11,7 @@ use Rattle.desk_incidents.specs.EndSets.{has_end, joins}
 use Rattle.desk_incidents.specs.LinkTable.{touches}
 use Rattle.desk_incidents.specs.Links.{links_after_merge}
 use Rattle.desk_incidents.proofs.EndChanges.{cond_test}
-use Rattle.desk_incidents.proofs.LinkTables.{length-at}
+use Rattle.desk_index.proofs.Slots.{places-count}
 use Rattle.desk_incidents.proofs.NotedLinks.{merged-fewer}
 use Rattle.desk_incidents.proofs.NotedMerges.{both-listed, both-same, noted-merged}
 use Rattle.desk_incidents.proofs.link_table.Links.merge.Goals as goal
@@ -26,9 +26,8 @@ note_all-requires c =
     let links : List Linked = live c.self.inside.slots.items in
     let count : length c.at-2.result.now
     ≡ count_by (touches c.args.to) (links_after_merge c.args.from c.args.to links) =
-    ap (λ (ks : List ℕ). length ks) c.at-2.ensures
-    ∙ length-at c.merge_links.new.slots.items c.merge_links.new.index.lists.entries c.args.to
-    c.merge_links.ensures.table
+    ap (λ (ks : List ℕ). length ks) (c.at-2.ensures ∙ c.merge_links.ensures.compact)
+    ∙ places-count (touches c.args.to) 0 c.merge_links.new.slots.items
     ∙ ap (count_by (touches c.args.to)) c.merge_links.ensures.links in
     let fewer : count_by (touches c.args.to) (links_after_merge c.args.from c.args.to links)
     ≤ count_by (touches c.args.to) links + count_by (touches c.args.from) links =
