@@ -3,11 +3,11 @@ use Rattle.std.proofs.Common.{◌≡◌, ◌↔◌, Bool, List, [], ◌∷◌, m
 use Rattle.std.specs.List.{AllByRecursion}
 use Rattle.std.proofs.lemmas.List.Sorted.{IsPermutation-sym, IsPermutation-trans, IsPermutation-map}
 use Rattle.sqlite_value.specs.Order.{Row}
+use Rattle.sqlite_schema.specs.declared.schema.Schema.{Schema}
 use Rattle.sqlite_trees.specs.Tree.{Trees}
 use Rattle.sqlite.specs.Listing.{understood}
-use Rattle.sqlite.specs.State.{State, Shown, IsUnchanged, Survives, CommitsShowing}
-use Rattle.sqlite.proofs.StateLemmas.{survives_weaker}
-use Rattle.sqlite.proofs.Callers.{IsPlain, never_commits}
+use Rattle.sqlite.specs.State.{State, Shown}
+use Rattle.sqlite.proofs.Callers.{IsPlain}
 use Rattle.desk_types.specs.declared.command.Entry.{Entry}
 use Rattle.desk_types.specs.declared.owner.Owner.{Owner}
 use Rattle.desk_log.specs.declared.clients.ClientRow.{ClientRow}
@@ -16,18 +16,20 @@ use Rattle.desk_saved.specs.Tables.{read_clients}
 use Rattle.desk_saved.specs.DeskTables.{Layout, log_tables, shown_client}
 use Rattle.desk_saved.specs.File.{row_of_client, AreRisingClients, HasClients, HasLogFile, HasNoState}
 use Rattle.desk_saved.specs.File.{IsState}
+use Rattle.desk_saved.specs.SchemaRefusals.{IsDeskSchema}
 use Rattle.desk_saved.proofs.Common.{all_permuted}
 use Rattle.desk_saved.proofs.ClientSelecting.{clients_any}
 use Rattle.desk_saved.proofs.ClientSelectAnswers.{clients_shown, clients_in_order}
-use Rattle.desk_saved.proofs.Loading.{unchanged_by}
 use Rattle.desk_saved.proofs.Restarts.{same_log}
 
 three : (rows : List Row) → AllByRecursion (λ row. length row ≡ 3) (map shown_client rows)
 three [] = tt
 three (r ∷ rows) = (refl, three rows)
 
-plain_read : (d : Layout) (s : State) → s.now.schema ≡ d.schema → IsPlain (understood s.now.schema read_clients)
-plain_read d s schema = subst (λ sc. IsPlain (understood sc read_clients)) (sym schema)
+pub plain_clients : (schema : Schema) → IsDeskSchema schema → IsPlain (understood schema read_clients)
+plain_clients schema stand =
+    let d = stand.0 in
+    subst (λ sc. IsPlain (understood sc read_clients)) (sym stand.1)
     (subst IsPlain (sym (clients_any d.schema d.client.tree d.client.at d.client.stands)) (refl, refl))
 
 -- what the code finds of the rows in order
@@ -50,12 +52,6 @@ module _ (d : Layout) (old new : State) (schema : old.now.schema ≡ d.schema) w
         (clients_shown d old new rows schema h))),
     (λ has. found.2.1 (clients_in_order d old new rows schema h log found.0 found.1 has)),
   )
-
-  pub clients_keep : (rows : List Row) → Shown read_clients [] old new rows → IsUnchanged old new
-  clients_keep rows h = unchanged_by read_clients [] old new rows (plain_read d old schema) h
-
-  pub clients_leave : Survives old new (CommitsShowing read_clients [] old) → Survives old new (λ _. ⊥)
-  clients_leave = survives_weaker old new _ _ (λ _ db. never_commits read_clients [] old db (plain_read d old schema))
 
 -- other rows of clients than those of the log, which the entries have, are those of no saved state
 pub other_clients : (d : Layout) (own : Owner) (trees : Trees) (last : SavedValue) → IsState last

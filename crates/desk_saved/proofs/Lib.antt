@@ -26,6 +26,7 @@ pub mod SavedRows
 pub mod Reading
 pub mod SelectAnswers
 pub mod Loading
+pub mod TableReads
 pub mod DomainText
 pub mod NodeTable
 pub mod Making

@@ -1,11 +1,11 @@
 -- What `load_state` answers.
-use Rattle.std.proofs.Common.{inl, inr, Result, Ok, Err, IfErr, ◌≡◌, ◌≤◌, ℕ, List, [], ◌∷◌, length}
+use Rattle.std.proofs.Common.{Result, Ok, Err, IfErr, ◌≡◌, ◌≤◌, ℕ, List, [], ◌∷◌, length}
 use Rattle.std.proofs.Common.{false, sym, ap, subst, ◌∙◌, arith, map}
 use Rattle.std.proofs.lemmas.List.Sorted.{length_permutation}
 use Rattle.sqlite_trees.specs.Tree.{Trees}
 use Rattle.sqlite_catalog.specs.Listing.{IsSound}
 use Rattle.sqlite.specs.Effect.{Database}
-use Rattle.sqlite.specs.State.{State, IsUnchanged, Survives, HasCleanDisk}
+use Rattle.sqlite.specs.State.{State, IsUnchanged}
 use Rattle.desk_types.specs.declared.command.Entry.{Entry}
 use Rattle.desk_types.specs.declared.limits.TheConstants.{LAST_VIEW, LOG_ENTRIES}
 use Rattle.desk_log.specs.SavedValue.{SavedValue}
@@ -69,22 +69,3 @@ still_saved old new d own s same schema file sound settled free =
 pub if_err_all : {A E : Type 0} (r : Result A E) (P : E → Type 0) → ((e : E) → P e) → IfErr r P
 if_err_all (Ok a) P h = tt
 if_err_all (Err e) P h = h e
-
--- Two reads in a row leave no more than stood before them.
-pub leaves_as_before : (a b c : State) (trees : Trees) → Survives a b (λ _. ⊥) → Survives b c (λ _. ⊥)
-    → HasCleanDisk b → HasCleanDisk c
-    → c.may_leave trees → a.may_leave trees
-leaves_as_before a b c trees p q cleanb cleanc leaves = elim (q.crash cleanc trees leaves) [
-  | inl mid ↦ elim (p.crash cleanb trees mid) [
-    | inl old ↦ old
-    | inr none ↦ absurd none
-  ]
-  | inr none ↦ absurd none
-]
-
-pub left_before : (a b : State) (trees : Trees) → Survives a b (λ _. ⊥) → HasCleanDisk b → b.may_leave trees
-    → a.may_leave trees
-left_before a b trees p clean leaves = elim (p.crash clean trees leaves) [
-  | inl old ↦ old
-  | inr none ↦ absurd none
-]

@@ -11,18 +11,20 @@ use Rattle.std.proofs.lemmas.List.Sorted.{IsPermutation-sym}
 use Rattle.sqlite_value.specs.declared.value.Value.TheVariants.{Int}
 use Rattle.sqlite_value.specs.Order.{Row, column, value_cmp}
 use Rattle.sqlite_value.proofs.OrderLemmas.{value_cmp-Int}
+use Rattle.sqlite_schema.specs.declared.schema.Schema.{Schema}
 use Rattle.sqlite_trees.specs.Tree.{Trees}
 use Rattle.sqlite.specs.Clock.{timed}
 use Rattle.sqlite.specs.Listing.{understood}
-use Rattle.sqlite.specs.State.{State, Shown, ShowsRows, IsUnchanged, Survives, CommitsShowing}
-use Rattle.sqlite.proofs.StateLemmas.{survives_weaker}
-use Rattle.sqlite.proofs.Callers.{IsPlain, never_commits, one_permutation}
+use Rattle.sqlite.specs.State.{State, Shown, ShowsRows, IsUnchanged}
+use Rattle.sqlite.proofs.Callers.{IsPlain, one_permutation}
 use Rattle.desk_types.specs.declared.command.Entry.{Entry}
 use Rattle.desk_saved.specs.declared.transactions.Numbers.{Numbers}
 use Rattle.desk_saved.specs.Tables.{read_entries, read_node}
-use Rattle.desk_saved.specs.DeskTables.{LogTables, NodeTable, shown_entry, shown_node, versioned_row}
+use Rattle.desk_saved.specs.DeskTables.{LogTables, shown_entry, shown_node, versioned_row}
 use Rattle.desk_saved.specs.File.{rows_from, AreNoLog, HasLog, HasNoLog, HasOwn, HasNoOwn}
 use Rattle.desk_codec.specs.Ranges.{FitsEntries}
+use Rattle.desk_saved.specs.Named.{HasNodeTable}
+use Rattle.desk_saved.specs.Reads.{HasLogTables}
 use Rattle.desk_saved.proofs.Common.{all_permuted}
 use Rattle.desk_saved.proofs.Selecting.{entries_any}
 use Rattle.desk_saved.proofs.NodeRow.{node_any}
@@ -49,8 +51,10 @@ four : (rows : List Row) → AllByRecursion (λ row. length row ≡ 4) (map show
 four [] = tt
 four (r ∷ rows) = (refl, four rows)
 
-plain_read : (d : LogTables) (s : State) → s.now.schema ≡ d.schema → IsPlain (understood s.now.schema read_entries)
-plain_read d s schema = subst (λ sc. IsPlain (understood sc read_entries)) (sym schema)
+pub plain_entries : (schema : Schema) → HasLogTables schema → IsPlain (understood schema read_entries)
+plain_entries schema stand =
+    let d = stand.0 in
+    subst (λ sc. IsPlain (understood sc read_entries)) (sym stand.1)
     (subst IsPlain (sym (entries_any d.schema d.entry.tree d.entry.at d.entry.stands)) (refl, refl))
 
 -- a query changes nothing
@@ -78,26 +82,15 @@ module _ (d : LogTables) (old new : State) (schema : old.now.schema ≡ d.schema
         (entries_shown d old new rows schema h),
   )
 
-  pub load_keeps : (rows : List Row) → Shown read_entries [] old new rows → IsUnchanged old new
-  load_keeps rows h = unchanged_by read_entries [] old new rows (plain_read d old schema) h
-
-  pub load_leaves : Survives old new (CommitsShowing read_entries [] old) → Survives old new (λ _. ⊥)
-  load_leaves = survives_weaker old new _ _ (λ _ db. never_commits read_entries [] old db (plain_read d old schema))
-
 eight : (rows : List Row) → AllByRecursion (λ row. length row ≡ 8) (map shown_node rows)
 eight [] = tt
 eight (r ∷ rows) = (refl, eight rows)
 
-plain_node : (d : NodeTable) (s : State) → s.now.schema ≡ d.schema → IsPlain (understood s.now.schema read_node)
-plain_node d s schema = subst (λ sc. IsPlain (understood sc read_node)) (sym schema)
+pub plain_node : (schema : Schema) → HasNodeTable schema → IsPlain (understood schema read_node)
+plain_node schema stand =
+    let d = stand.0 in
+    subst (λ sc. IsPlain (understood sc read_node)) (sym stand.1)
     (subst IsPlain (sym (node_any d.schema d.node.tree d.node.at d.node.stands)) (refl, refl))
-
-module _ (d : NodeTable) (old new : State) (schema : old.now.schema ≡ d.schema) where
-  pub node_leaves : Survives old new (CommitsShowing read_node [] old) → Survives old new (λ _. ⊥)
-  node_leaves = survives_weaker old new _ _ (λ _ db. never_commits read_node [] old db (plain_node d old schema))
-
-  pub node_keeps : (rows : List Row) → Shown read_node [] old new rows → IsUnchanged old new
-  node_keeps rows h = unchanged_by read_node [] old new rows (plain_node d old schema) h
 
 -- rows that are those of `node`, in any order
 module _ (trees : Trees) (node : ℕ) (rows : List Row) (shown : IsPermutation rows (map shown_node (trees node))) where

@@ -1,7 +1,6 @@
 -- What an open answers that finds the tables of version 1.
 use Rattle.std.proofs.Common.{◌≡◌, ◌≢◌, inl, inr, ◌≤◌, Result, Ok, Err, IfOk, IfErr, map, ◌∷◌, [], IsTrue}
 use Rattle.std.proofs.Common.{IsPermutation, refl, sym, subst, ◌∙◌}
-use Rattle.sqlite_trees.specs.Tree.{Trees}
 use Rattle.sqlite_trees.specs.declared.store.Store.{Ghosts}
 use Rattle.sqlite.specs.Effect.{Database, IsDatabase}
 use Rattle.sqlite.specs.State.{HasCleanDisk, IsLive, IsUnchanged}
@@ -45,22 +44,14 @@ wrong_not_want e = cc
 -- the rows were read, and nothing was made
 module _ {S : Type 0} (g : Ghosts S) (before mid : Held S) (owner : Owner) (old : HasOldTables (schema_of g before))
     (limit : (state g mid).step_limit ≡ (state g before).step_limit)
-    (left : HasCleanDisk (state g mid) → (d : LogTables) → schema_of g before ≡ d.schema → (trees : Trees)
-    → (state g mid).may_leave trees → (state g before).may_leave trees) where
-  no_more : LeavesNoMore (state g before) (state g mid)
-  no_more clean = left clean old.tables old.schema_is
-
+    (left : LeavesNoMore (state g before) (state g mid)) where
   pub old_refused : (refusal : Refusal) → IsOpeningRefusal refusal
       → (refusal ≡ refusals.WrongFile → HasCleanDisk (state g mid) → (d : LogTables)
       → schema_of g before ≡ d.schema → HasNoOldState d owner (trees_of g before))
-      → (refusal ≡ refusals.WrongFile → HasCleanDisk (state g mid) → (d : LogTables)
-      → schema_of g before ≡ d.schema → IsUnchanged (state g before) (state g mid))
-      → (refusal ≡ refusals.WantOfMemory → HasCleanDisk (state g mid) → (d : LogTables)
-      → schema_of g before ≡ d.schema → IsUnchanged (state g before) (state g mid))
-      → (refusal ≡ refusals.StoreFault → HasCleanDisk (state g mid) → (d : LogTables)
-      → schema_of g before ≡ d.schema → ShowsAsBefore (state g before) (state g mid))
-      → (refusal ≡ refusals.StoreFault → HasCleanDisk (state g mid) → (d : LogTables)
-      → schema_of g before ≡ d.schema → HasOpeningCause g before mid)
+      → (refusal ≡ refusals.WrongFile → HasCleanDisk (state g mid) → IsUnchanged (state g before) (state g mid))
+      → (refusal ≡ refusals.WantOfMemory → HasCleanDisk (state g mid) → IsUnchanged (state g before) (state g mid))
+      → (refusal ≡ refusals.StoreFault → HasCleanDisk (state g mid) → ShowsAsBefore (state g before) (state g mid))
+      → (refusal ≡ refusals.StoreFault → HasCleanDisk (state g mid) → HasOpeningCause g before mid)
       → HasRefused g before owner mid refusal
   old_refused refusal fault none unchanged want shows cause = record {
     fault = fault;
@@ -73,27 +64,27 @@ module _ {S : Type 0} (g : Ghosts S) (before mid : Held S) (owner : Owner) (old 
     unfit = λ _. old_not_none _ old;
     no_state = λ all. absurd (old_not_all _ old all);
     no_old_state = λ other wrong clean. none wrong clean other.tables other.schema_is;
-    unchanged = λ wrong clean. inr (unchanged wrong clean old.tables old.schema_is);
-    want_of_memory = λ is clean. inr (want is clean old.tables old.schema_is);
-    cause = λ is clean. cause is clean old.tables old.schema_is;
-    store_fault = λ is clean. shows is clean old.tables old.schema_is;
-    grown = λ other clean. inl no_more;
+    unchanged = λ wrong clean. inr (unchanged wrong clean);
+    want_of_memory = λ is clean. inr (want is clean);
+    cause = cause;
+    store_fault = shows;
+    grown = λ other clean. inl left;
     there = λ all. absurd (old_not_all _ old all);
     made = λ neither. absurd (old_not_none _ old neither);
   }
 
   -- by a fault of the store, and as the rows are those of no saved state
-  pub old_failed : (HasCleanDisk (state g mid) → (d : LogTables) → schema_of g before ≡ d.schema
-      → ShowsAsBefore (state g before) (state g mid)) → HasOpeningCause g before mid
+  pub old_failed : (HasCleanDisk (state g mid) → ShowsAsBefore (state g before) (state g mid))
+      → HasOpeningCause g before mid
       → HasRefused g before owner mid refusals.StoreFault
   old_failed shows cause = old_refused refusals.StoreFault (inr (inl refl)) (λ wrong. absurd (fault_not_wrong wrong))
       (λ wrong. absurd (fault_not_wrong wrong)) (λ want. absurd (fault_not_want want)) (λ _. shows)
-      (λ _ _ d schema. cause)
+      (λ _ _. cause)
 
   pub old_unfit : (HasCleanDisk (state g mid) → (d : LogTables) → schema_of g before ≡ d.schema
       → HasNoOldState d owner (trees_of g before))
-      → (HasCleanDisk (state g mid) → (d : LogTables) → schema_of g before ≡ d.schema
-      → IsUnchanged (state g before) (state g mid)) → HasRefused g before owner mid refusals.WrongFile
+      → (HasCleanDisk (state g mid) → IsUnchanged (state g before) (state g mid))
+      → HasRefused g before owner mid refusals.WrongFile
   old_unfit none unchanged = old_refused refusals.WrongFile (inr (inr refl)) (λ _. none) (λ _. unchanged)
       (λ want. absurd (wrong_not_want want)) (λ fault. absurd (fault_not_wrong (sym fault)))
       (λ fault. absurd (fault_not_wrong (sym fault)))
@@ -102,10 +93,9 @@ module _ {S : Type 0} (g : Ghosts S) (before mid : Held S) (owner : Owner) (old 
   module _ (last : SavedValue) (live : IsLive (state g before)) (room : HasRoomForClients (schema_of g before))
       (fits : HasCleanDisk (state g mid) → (d : LogTables) → schema_of g before ≡ d.schema
       → IsOldState last × HasOldFile d owner last (trees_of g before))
-      (same : HasCleanDisk (state g mid) → (d : LogTables) → schema_of g before ≡ d.schema
-      → IsUnchanged (state g before) (state g mid)) where
+      (same : HasCleanDisk (state g mid) → IsUnchanged (state g before) (state g mid)) where
     now_is : HasCleanDisk (state g mid) → (state g mid).now ≡ (state g before).now
-    now_is clean = (same clean old.tables old.schema_is).0.now_is
+    now_is clean = (same clean).0.now_is
 
     rows_stand : HasCleanDisk (state g mid) → (d : Layout) → GrowsTo (schema_of g before) d
         → HasOldRows d (trees_of g before)
@@ -122,7 +112,7 @@ module _ {S : Type 0} (g : Ghosts S) (before mid : Held S) (owner : Owner) (old 
     stands : HasCleanDisk (state g mid) → IsTrue (state g before).is_open → (d : Layout)
         → GrowsTo (schema_of g before) d → StandsToGrow d owner last (state g mid)
     stands clean open_ d grows = record {
-      is_open = (same clean old.tables old.schema_is).0.is_open;
+      is_open = (same clean).0.is_open;
       sound = subst IsDatabase (sym (now_is clean)) (live open_).0;
       grows = subst (λ (db : Database). GrowsTo db.schema d) (sym (now_is clean)) grows;
       rows = subst (λ (db : Database). HasOldRows d db.trees
@@ -135,7 +125,7 @@ module _ {S : Type 0} (g : Ghosts S) (before mid : Held S) (owner : Owner) (old 
     grown_left after may late open_ d grows trees leaves =
         let clean = may.clean late in
         elim (may.left late d (stands clean open_ d grows) trees leaves) [
-          | inl was ↦ inl (no_more clean trees was)
+          | inl was ↦ inl (left clean trees was)
           | inr grown ↦ inr (subst (λ (db : Database). IsGrown d owner last db.trees trees) (now_is clean) grown)
         ]
 
@@ -171,9 +161,8 @@ module _ {S : Type 0} (g : Ghosts S) (before mid : Held S) (owner : Owner) (old 
               inr (record { tables = old; state = it.0; rows = it.1 });
         }
 
-    pub not_grown : (HasCleanDisk (state g mid) → (d : LogTables) → schema_of g before ≡ d.schema
-        → (state g before).faults ≤ (state g mid).faults)
-        → (after : Held S) (refusal : Refusal) → HasNotGrown g mid owner last after refusal
+    pub not_grown : (state g before).faults ≤ (state g mid).faults → (after : Held S) (refusal : Refusal)
+        → HasNotGrown g mid owner last after refusal
         → HasRefused g before owner after refusal
     not_grown counts after refusal h =
         let clean = h.may.clean in
@@ -198,19 +187,18 @@ module _ {S : Type 0} (g : Ghosts S) (before mid : Held S) (owner : Owner) (old 
           unchanged = λ wrong. absurd (other_refusal wrong);
           want_of_memory = λ is late. elim h.fault [
             | inl want ↦ inr (subst (λ conn. IsUnchanged (state g before) (state g conn)) (sym want.1)
-                (same (clean late) old.tables old.schema_is))
+                (same (clean late)))
             | inr fault ↦ absurd (let it = sym fault ∙ is in cc)
           ];
           cause = λ is late. elim (h.cause is late) [
-            | inl open_ ↦ inl (inl (subst IsTrue (same (clean late) old.tables old.schema_is).0.mode open_))
+            | inl open_ ↦ inl (inl (subst IsTrue (same (clean late)).0.mode open_))
             | inr none ↦ inr (inr none)
           ];
           store_fault = λ _ late.
               shows_then (state g before) (state g mid) (state g after)
-              (same (clean late) old.tables old.schema_is) (counts (clean late) old.tables old.schema_is)
-              (h.shows late);
+              (same (clean late)) counts (h.shows late);
           grown = λ other late. elim h.fault [
-            | inl want ↦ inl (subst (λ conn. LeavesNoMore (state g before) (state g conn)) (sym want.1) no_more)
+            | inl want ↦ inl (subst (λ conn. LeavesNoMore (state g before) (state g conn)) (sym want.1) left)
             | inr fault ↦ inr (
               fault,
               record {

@@ -20,7 +20,7 @@ use Rattle.desk_saved.specs.Transactions.{Transacts}
 use Rattle.desk_saved.specs.DeskTables.{Layout, StateRows, KeepsOthers, Saves, Changes, own_rows}
 use Rattle.desk_saved.specs.File.{IsState, HasFile, HoldsFile, HasNoState, HasNoTable}
 use Rattle.desk_saved.specs.NewTables.{Becomes, HasRoomForTables}
-use Rattle.desk_saved.specs.Opening.{HasOpened, HasRefused, LeavesFirst}
+use Rattle.desk_saved.specs.Opening.{HasOpened, HasRefused, LeavesFirst, LeavesNoMore}
 use Rattle.desk_saved.specs.AfterRefusal.{IsOpeningRefusal, ShowsAsBefore}
 use Rattle.desk_saved.specs.Causes.{HasNoTransaction, HasOpeningCause}
 use Rattle.desk_saved.specs.SchemaRefusals.{IsDeskSchema, IsRefusedBy}
@@ -116,15 +116,13 @@ module _ {S : Type 0} (g : Ghosts S) (before : Held S) (owner : Owner) where
   -- a database with the schema of a desk
   module _ (desk : IsDeskSchema (schema_of g before)) (after : Held S)
       (limit : (state g after).step_limit ≡ (state g before).step_limit)
-      (left : HasCleanDisk (state g after) → (d : Layout) → schema_of g before ≡ d.schema → (trees : Trees)
-      → (state g after).may_leave trees → (state g before).may_leave trees) where
+      (left : LeavesNoMore (state g before) (state g after)) where
     pub found : (last : SavedValue) → IsLive (state g before)
         → (IsTrue (state g before).is_open → (state g before).now ≡ (state g before).committed)
         → (state g before).in_transaction ≡ false
         → (HasCleanDisk (state g after) → (d : Layout) → schema_of g before ≡ d.schema
         → IsState last × HasFile d owner last (trees_of g before))
-        → (HasCleanDisk (state g after) → (d : Layout) → schema_of g before ≡ d.schema
-        → IsUnchanged (state g before) (state g after))
+        → (HasCleanDisk (state g after) → IsUnchanged (state g before) (state g after))
         → HasOpened g before owner (record { connection = after; owner = owner; last = last; stopped = false })
     found last live settled free fits same = record {
       own = (refl, refl);
@@ -132,12 +130,12 @@ module _ {S : Type 0} (g : Ghosts S) (before : Held S) (owner : Owner) where
       whole = inl desk;
       there = λ both. record {
         holds = λ open_ d schema clean.
-            still_saved (state g before) (state g after) d owner last (same clean d schema) schema
+            still_saved (state g before) (state g after) d owner last (same clean) schema
             (fits clean d schema).1
             (subst (λ s. IsSound s (trees_of g before)) schema (live open_).0) (settled open_) free;
         fits = fits;
-        same = λ clean. same clean desk.0 desk.1;
-        left = λ clean. left clean desk.0 desk.1;
+        same = same;
+        left = left;
       };
       grown = λ old. absurd (old_not_desk _ old desk);
       made = λ neither. absurd (desk_not_none _ desk neither);
@@ -149,14 +147,13 @@ module _ {S : Type 0} (g : Ghosts S) (before : Held S) (owner : Owner) where
     pub not_found : (refusal : Refusal) → IsOpeningRefusal refusal
         → (refusal ≡ refusals.WrongFile → HasCleanDisk (state g after) → (d : Layout)
         → schema_of g before ≡ d.schema → HasNoState d owner (trees_of g before))
-        → (refusal ≡ refusals.WrongFile → HasCleanDisk (state g after) → (d : Layout)
-        → schema_of g before ≡ d.schema → IsUnchanged (state g before) (state g after))
-        → (refusal ≡ refusals.WantOfMemory → HasCleanDisk (state g after) → (d : Layout)
-        → schema_of g before ≡ d.schema → IsUnchanged (state g before) (state g after))
-        → (refusal ≡ refusals.StoreFault → HasCleanDisk (state g after) → (d : Layout)
-        → schema_of g before ≡ d.schema → ShowsAsBefore (state g before) (state g after))
-        → (refusal ≡ refusals.StoreFault → HasCleanDisk (state g after) → (d : Layout)
-        → schema_of g before ≡ d.schema → HasOpeningCause g before after)
+        → (refusal ≡ refusals.WrongFile → HasCleanDisk (state g after)
+        → IsUnchanged (state g before) (state g after))
+        → (refusal ≡ refusals.WantOfMemory → HasCleanDisk (state g after)
+        → IsUnchanged (state g before) (state g after))
+        → (refusal ≡ refusals.StoreFault → HasCleanDisk (state g after)
+        → ShowsAsBefore (state g before) (state g after))
+        → (refusal ≡ refusals.StoreFault → HasCleanDisk (state g after) → HasOpeningCause g before after)
         → HasRefused g before owner after refusal
     not_found refusal fault none unchanged want shows cause = record {
       fault = fault;
@@ -169,12 +166,12 @@ module _ {S : Type 0} (g : Ghosts S) (before : Held S) (owner : Owner) where
       unfit = λ _. desk_not_none _ desk;
       no_state = λ both wrong clean d schema. none wrong clean d schema;
       no_old_state = λ old. absurd (old_not_desk _ old desk);
-      unchanged = λ wrong clean. inr (unchanged wrong clean desk.0 desk.1);
-      want_of_memory = λ is clean. inr (want is clean desk.0 desk.1);
-      cause = λ is clean. cause is clean desk.0 desk.1;
-      store_fault = λ is clean. shows is clean desk.0 desk.1;
+      unchanged = λ wrong clean. inr (unchanged wrong clean);
+      want_of_memory = λ is clean. inr (want is clean);
+      cause = cause;
+      store_fault = shows;
       grown = λ old. absurd (old_not_desk _ old desk);
-      there = λ both clean. left clean desk.0 desk.1;
+      there = λ both. left;
       made = λ neither. absurd (desk_not_none _ desk neither);
     }
 

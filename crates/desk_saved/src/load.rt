@@ -1,9 +1,8 @@
 //! Reading the three tables.
 
-ghost use Rattle.std.specs.Prelude.{◌≡◌, ◌⊎◌, ◌≤◌, ◌↔◌, length, map, IsTrue, IfOk, IfErr, OnOk, OnErr, MatchOption};
+ghost use Rattle.std.specs.Prelude.{◌≡◌, ◌≤◌, ◌↔◌, length, map, IsTrue, IfOk, IfErr, MatchOption};
 ghost use Rattle.std.specs.List.Sorted.{IsPermutation};
-ghost use Rattle.sqlite_trees.specs.Tree.{Trees};
-ghost use Rattle.sqlite.specs.State.{HasCleanDisk, Survives, IsUnchanged};
+ghost use Rattle.sqlite.specs.State.{HasCleanDisk, Survives};
 ghost use Rattle.sqlite.specs.Held.{state};
 ghost use Rattle.desk_types.specs.declared.refusal.Refusal.TheVariants as refusals;
 ghost use Rattle.desk_saved.specs.Contents.{schema_of, trees_of};
@@ -11,8 +10,9 @@ ghost use Rattle.desk_saved.specs.DeskTables.{Layout, LogTables, NodeTable, show
 ghost use Rattle.desk_saved.specs.File.{HasLog, HasNoLog, HasOwn, HasNoOwn, IsState, HasNoState, HasFile};
 ghost use Rattle.desk_codec.specs.Ranges.{FitsEntries};
 ghost use Rattle.desk_saved.specs.File.{HasClients, HasLogFile, HasNoLogFile};
-ghost use Rattle.desk_saved.specs.AfterRefusal.{IsSettled, ShowsAsBefore, KeepsFaultsAndLimit};
-ghost use Rattle.desk_saved.specs.Causes.{RefusesRead};
+ghost use Rattle.desk_saved.specs.Named.{HasNodeTable};
+ghost use Rattle.desk_saved.specs.Reads.{HasRead, HasLogTables};
+ghost use Rattle.desk_saved.specs.SchemaRefusals.{IsDeskSchema};
 
 use crate::last_saved::LastSaved;
 use crate::rows::{are_clients_of, log_in, own_among};
@@ -35,21 +35,9 @@ fn load_log<S: Alter>(
         → schema_of S.Store conn.old ≡ d.schema
         → IfOk result (λ found. MatchOption found (HasNoLog d (trees_of S.Store conn.old))
         (λ log. FitsEntries log.items × HasLog d (trees_of S.Store conn.old) log.items)) }
-    ensures same { HasCleanDisk (state S.Store conn.new) → (d : LogTables)
-        → schema_of S.Store conn.old ≡ d.schema
-        → OnOk result (IsUnchanged (state S.Store conn.old) (state S.Store conn.new)) }
     ensures crash { (d : LogTables) → schema_of S.Store conn.old ≡ d.schema
         → Survives (state S.Store conn.old) (state S.Store conn.new) (λ _. ⊥) }
-    ensures keeps { KeepsFaultsAndLimit (state S.Store conn.old) (state S.Store conn.new) }
-    ensures refused { IfErr result (λ r. (r ≡ refusals.StoreFault) ⊎ (r ≡ refusals.WantOfMemory)) }
-    ensures want_of_memory { HasCleanDisk (state S.Store conn.new)
-        → (d : LogTables) → schema_of S.Store conn.old ≡ d.schema → IfErr result (λ r. r ≡ refusals.WantOfMemory
-        → IsUnchanged (state S.Store conn.old) (state S.Store conn.new)) }
-    ensures store_fault { HasCleanDisk (state S.Store conn.new) → IsSettled (state S.Store conn.old)
-        → IfErr result (λ r. r ≡ refusals.StoreFault
-        → ShowsAsBefore (state S.Store conn.old) (state S.Store conn.new)) }
-    ensures cause { HasCleanDisk (state S.Store conn.new) → IfErr result (λ r. r ≡ refusals.StoreFault
-        → RefusesRead S.Store conn.old conn.new) }
+    ensures read { HasRead S.Store conn.old conn.new HasLogTables result }
 {
     let rows = match conn.query_all(
         "SELECT place, client, number, body FROM entry ORDER BY place",
@@ -67,17 +55,10 @@ pub(crate) fn node_rows<S: Alter>(conn: &mut Connection<S>) -> Result<Vec<Row>, 
     ensures shown { HasCleanDisk (state S.Store conn.new) → (d : NodeTable)
         → schema_of S.Store conn.old ≡ d.schema
         → IfOk result (λ rows. IsPermutation rows.items (map shown_node (trees_of S.Store conn.old d.node.tree))) }
-    ensures same { HasCleanDisk (state S.Store conn.new) → (d : NodeTable)
-        → schema_of S.Store conn.old ≡ d.schema
-        → OnOk result (IsUnchanged (state S.Store conn.old) (state S.Store conn.new)) }
     ensures crash { (d : NodeTable) → schema_of S.Store conn.old ≡ d.schema
         → Survives (state S.Store conn.old) (state S.Store conn.new) (λ _. ⊥) }
-    ensures keeps { KeepsFaultsAndLimit (state S.Store conn.old) (state S.Store conn.new) }
     ensures refused { IfErr result (λ r. r ≡ refusals.StoreFault) }
-    ensures store_fault { HasCleanDisk (state S.Store conn.new) → IsSettled (state S.Store conn.old)
-        → OnErr result (ShowsAsBefore (state S.Store conn.old) (state S.Store conn.new)) }
-    ensures cause { HasCleanDisk (state S.Store conn.new)
-        → OnErr result (RefusesRead S.Store conn.old conn.new) }
+    ensures read { HasRead S.Store conn.old conn.new HasNodeTable result }
 {
     match conn.query_all(
         "SELECT slot, version, id, n, domain, view_no, normal_no, commit_no FROM node",
@@ -100,21 +81,9 @@ fn load_own<S: Alter>(
         → schema_of S.Store conn.old ≡ d.schema
         → IfOk result (λ found. MatchOption found (HasNoOwn d (trees_of S.Store conn.old) version id n domain.now)
         (λ s. HasOwn d (trees_of S.Store conn.old) version id n domain.now s.view s.normal s.commit)) }
-    ensures same { HasCleanDisk (state S.Store conn.new) → (d : LogTables)
-        → schema_of S.Store conn.old ≡ d.schema
-        → OnOk result (IsUnchanged (state S.Store conn.old) (state S.Store conn.new)) }
     ensures crash { (d : LogTables) → schema_of S.Store conn.old ≡ d.schema
         → Survives (state S.Store conn.old) (state S.Store conn.new) (λ _. ⊥) }
-    ensures keeps { KeepsFaultsAndLimit (state S.Store conn.old) (state S.Store conn.new) }
-    ensures refused { IfErr result (λ r. (r ≡ refusals.StoreFault) ⊎ (r ≡ refusals.WantOfMemory)) }
-    ensures want_of_memory { HasCleanDisk (state S.Store conn.new)
-        → (d : LogTables) → schema_of S.Store conn.old ≡ d.schema → IfErr result (λ r. r ≡ refusals.WantOfMemory
-        → IsUnchanged (state S.Store conn.old) (state S.Store conn.new)) }
-    ensures store_fault { HasCleanDisk (state S.Store conn.new) → IsSettled (state S.Store conn.old)
-        → IfErr result (λ r. r ≡ refusals.StoreFault
-        → ShowsAsBefore (state S.Store conn.old) (state S.Store conn.new)) }
-    ensures cause { HasCleanDisk (state S.Store conn.new) → IfErr result (λ r. r ≡ refusals.StoreFault
-        → RefusesRead S.Store conn.old conn.new) }
+    ensures read { HasRead S.Store conn.old conn.new HasLogTables result }
 {
     let rows = node_rows(conn)?;
     let found = own_among(rows.as_slice(), version, id, n, domain)?;
@@ -144,26 +113,7 @@ pub(crate) fn load_saved<S: Alter>(
         → schema_of S.Store conn.old ≡ d.schema
         → IfOk result (λ found. MatchOption found (HasNoLogFile d version owner.now (trees_of S.Store conn.old))
         (λ s. IsState s × HasLogFile d version owner.now s (trees_of S.Store conn.old))) }
-    ensures same { HasCleanDisk (state S.Store conn.new) → (d : LogTables)
-        → schema_of S.Store conn.old ≡ d.schema
-        → OnOk result (IsUnchanged (state S.Store conn.old) (state S.Store conn.new)) }
-    ensures left { HasCleanDisk (state S.Store conn.new) → (d : LogTables)
-        → schema_of S.Store conn.old ≡ d.schema
-        → (trees : Trees) → (state S.Store conn.new).may_leave trees → (state S.Store conn.old).may_leave trees }
-    ensures keeps { KeepsFaultsAndLimit (state S.Store conn.old) (state S.Store conn.new) }
-    ensures refused { IfErr result (λ r. (r ≡ refusals.StoreFault) ⊎ (r ≡ refusals.WantOfMemory)) }
-    ensures want_of_memory { HasCleanDisk (state S.Store conn.new)
-        → (d : LogTables) → schema_of S.Store conn.old ≡ d.schema → IfErr result (λ r. r ≡ refusals.WantOfMemory
-        → IsUnchanged (state S.Store conn.old) (state S.Store conn.new)) }
-    ensures store_fault { HasCleanDisk (state S.Store conn.new) → IsSettled (state S.Store conn.old)
-        → (d : LogTables) → schema_of S.Store conn.old ≡ d.schema → IfErr result (λ r. r ≡ refusals.StoreFault
-        → ShowsAsBefore (state S.Store conn.old) (state S.Store conn.new)) }
-    ensures cause { HasCleanDisk (state S.Store conn.new)
-        → (d : LogTables) → schema_of S.Store conn.old ≡ d.schema → IfErr result (λ r. r ≡ refusals.StoreFault
-        → RefusesRead S.Store conn.old conn.new) }
-    ensures counts { HasCleanDisk (state S.Store conn.new) → (d : LogTables)
-        → schema_of S.Store conn.old ≡ d.schema
-        → OnOk result ((state S.Store conn.old).faults ≤ (state S.Store conn.new).faults) }
+    ensures read { HasRead S.Store conn.old conn.new HasLogTables result }
 {
     let id = owner.id as u64;
     let n = owner.n as u64;
@@ -186,21 +136,9 @@ fn load_clients<S: Alter>(conn: &mut Connection<S>, log: &Log) -> Result<bool, R
     ensures found { HasCleanDisk (state S.Store conn.new) → (d : Layout)
         → schema_of S.Store conn.old ≡ d.schema
         → IfOk result (λ same. IsTrue same ↔ HasClients d (trees_of S.Store conn.old) log.now) }
-    ensures same { HasCleanDisk (state S.Store conn.new) → (d : Layout)
-        → schema_of S.Store conn.old ≡ d.schema
-        → OnOk result (IsUnchanged (state S.Store conn.old) (state S.Store conn.new)) }
     ensures crash { (d : Layout) → schema_of S.Store conn.old ≡ d.schema
         → Survives (state S.Store conn.old) (state S.Store conn.new) (λ _. ⊥) }
-    ensures keeps { KeepsFaultsAndLimit (state S.Store conn.old) (state S.Store conn.new) }
-    ensures refused { IfErr result (λ r. (r ≡ refusals.StoreFault) ⊎ (r ≡ refusals.WantOfMemory)) }
-    ensures want_of_memory { HasCleanDisk (state S.Store conn.new)
-        → (d : Layout) → schema_of S.Store conn.old ≡ d.schema → IfErr result (λ r. r ≡ refusals.WantOfMemory
-        → IsUnchanged (state S.Store conn.old) (state S.Store conn.new)) }
-    ensures store_fault { HasCleanDisk (state S.Store conn.new) → IsSettled (state S.Store conn.old)
-        → IfErr result (λ r. r ≡ refusals.StoreFault
-        → ShowsAsBefore (state S.Store conn.old) (state S.Store conn.new)) }
-    ensures cause { HasCleanDisk (state S.Store conn.new) → IfErr result (λ r. r ≡ refusals.StoreFault
-        → RefusesRead S.Store conn.old conn.new) }
+    ensures read { HasRead S.Store conn.old conn.new IsDeskSchema result }
 {
     let rows = match conn.query_all(
         "SELECT client, number, place FROM client ORDER BY client",
@@ -223,23 +161,7 @@ pub(crate) fn load_state<S: Alter>(
         → schema_of S.Store conn.old ≡ d.schema
         → IfOk result (λ found. MatchOption found (HasNoState d owner.now (trees_of S.Store conn.old))
         (λ s. IsState s × HasFile d owner.now s (trees_of S.Store conn.old))) }
-    ensures same { HasCleanDisk (state S.Store conn.new) → (d : Layout)
-        → schema_of S.Store conn.old ≡ d.schema
-        → OnOk result (IsUnchanged (state S.Store conn.old) (state S.Store conn.new)) }
-    ensures left { HasCleanDisk (state S.Store conn.new) → (d : Layout)
-        → schema_of S.Store conn.old ≡ d.schema
-        → (trees : Trees) → (state S.Store conn.new).may_leave trees → (state S.Store conn.old).may_leave trees }
-    ensures keeps { KeepsFaultsAndLimit (state S.Store conn.old) (state S.Store conn.new) }
-    ensures refused { IfErr result (λ r. (r ≡ refusals.StoreFault) ⊎ (r ≡ refusals.WantOfMemory)) }
-    ensures want_of_memory { HasCleanDisk (state S.Store conn.new)
-        → (d : Layout) → schema_of S.Store conn.old ≡ d.schema → IfErr result (λ r. r ≡ refusals.WantOfMemory
-        → IsUnchanged (state S.Store conn.old) (state S.Store conn.new)) }
-    ensures store_fault { HasCleanDisk (state S.Store conn.new) → IsSettled (state S.Store conn.old)
-        → (d : Layout) → schema_of S.Store conn.old ≡ d.schema → IfErr result (λ r. r ≡ refusals.StoreFault
-        → ShowsAsBefore (state S.Store conn.old) (state S.Store conn.new)) }
-    ensures cause { HasCleanDisk (state S.Store conn.new)
-        → (d : Layout) → schema_of S.Store conn.old ≡ d.schema → IfErr result (λ r. r ≡ refusals.StoreFault
-        → RefusesRead S.Store conn.old conn.new) }
+    ensures read { HasRead S.Store conn.old conn.new IsDeskSchema result }
 {
     let Some(saved) = load_saved(conn, alloc, FILE_VERSION, owner)? else {
         return Ok(None);

@@ -4,7 +4,7 @@ use Rattle.std.proofs.lemmas.Result.{err_from_is_err_and}
 use Rattle.sqlite.specs.Held.{state}
 use Rattle.desk_saved.specs.Contents.{schema_of}
 use Rattle.desk_saved.specs.Named.{HasNodeTable}
-use Rattle.desk_saved.proofs.LoadStateAnswers.{left_before, if_err_all}
+use Rattle.desk_saved.proofs.LoadStateAnswers.{if_err_all}
 use Rattle.desk_saved.proofs.Loading.{node_wide}
 use Rattle.desk_saved.proofs.NodeTable.{owner_found}
 use Rattle.desk_saved.proofs.named.named_owner.Goals as goal
@@ -30,37 +30,50 @@ pub returns-clause-same : goal.returns-clause-same
 returns-clause-same g c clean =
     let there : IsTrue c.has_node-is_there.result = search rules in
     let has : HasNodeTable (schema_of g.S.Store c.args.connection.now) = c.has_node-is_there.ensures.0 there in
-    inr (c.in_ok-rows.ensures.same clean has.0 has.1)
+    inr (c.in_ok-rows.ensures.read.same clean has)
 
 pub returns-clause-left : goal.returns-clause-left
 returns-clause-left g c clean trees leaves =
     let there : IsTrue c.has_node-is_there.result = search rules in
     let has : HasNodeTable (schema_of g.S.Store c.args.connection.now) = c.has_node-is_there.ensures.0 there in
-    left_before (state g.S.Store c.args.connection.now) (state g.S.Store c.node_rows.new.conn) trees
-    (c.node_rows.ensures.crash has.0 has.1) clean leaves
+    c.node_rows.ensures.read.left has clean trees leaves
 
 pub returns-in_err-found-clause-left : goal.returns-in_err-found-clause-left
 returns-in_err-found-clause-left g c clean trees leaves =
     let there : IsTrue c.has_node-is_there.result = search rules in
     let has : HasNodeTable (schema_of g.S.Store c.args.connection.now) = c.has_node-is_there.ensures.0 there in
-    left_before (state g.S.Store c.args.connection.now) (state g.S.Store c.node_rows.new.conn) trees
-    (c.node_rows.ensures.crash has.0 has.1) clean leaves
+    c.node_rows.ensures.read.left has clean trees leaves
 
 pub returns-in_err-rows-clause-left : goal.returns-in_err-rows-clause-left
 returns-in_err-rows-clause-left g c clean trees leaves =
     let there : IsTrue c.has_node-is_there.result = search rules in
     let has : HasNodeTable (schema_of g.S.Store c.args.connection.now) = c.has_node-is_there.ensures.0 there in
-    left_before (state g.S.Store c.args.connection.now) (state g.S.Store c.node_rows.new.conn) trees
-    (c.node_rows.ensures.crash has.0 has.1) clean leaves
+    c.node_rows.ensures.read.left has clean trees leaves
 
 pub returns-in_err-found-clause-want_of_memory : goal.returns-in_err-found-clause-want_of_memory
 returns-in_err-found-clause-want_of_memory g c clean =
     let there : IsTrue c.has_node-is_there.result = search rules in
     let has : HasNodeTable (schema_of g.S.Store c.args.connection.now) = c.has_node-is_there.ensures.0 there in
-    if_err_all c.from_residual-in_err-found.result _ (λ r _. c.in_ok-rows.ensures.same clean has.0 has.1)
+    if_err_all c.from_residual-in_err-found.result _ (λ r _. c.in_ok-rows.ensures.read.same clean has)
 
 pub returns-in_err-rows-clause-want_of_memory : goal.returns-in_err-rows-clause-want_of_memory
 returns-in_err-rows-clause-want_of_memory g c clean =
     let p = err_from_is_err_and c.from_residual.result c.from_residual.ensures.1 in
     let fault = c.in_err-rows.ensures.refused in
     rw (p.1, p.2) (λ want. absurd (let it = fault in let other = want in cc))
+
+pub returns-in_err-rows-clause-store_fault : goal.returns-in_err-rows-clause-store_fault
+returns-in_err-rows-clause-store_fault g c clean settled =
+    let there : IsTrue c.has_node-is_there.result = search rules in
+    let has : HasNodeTable (schema_of g.S.Store c.args.connection.now) = c.has_node-is_there.ensures.0 there in
+    let p = err_from_is_err_and c.from_residual.result c.from_residual.ensures.1 in
+    rw (p.1, p.2) (c.in_err-rows.ensures.read.store_fault settled clean has)
+
+pub returns-in_err-rows-clause-keeps : goal.returns-in_err-rows-clause-keeps
+returns-in_err-rows-clause-keeps g c = c.node_rows.ensures.read.keeps
+
+pub returns-in_err-found-clause-keeps : goal.returns-in_err-found-clause-keeps
+returns-in_err-found-clause-keeps g c = c.node_rows.ensures.read.keeps
+
+pub returns-clause-keeps : goal.returns-clause-keeps
+returns-clause-keeps g c = c.node_rows.ensures.read.keeps

@@ -4,7 +4,9 @@ use Rattle.std.proofs.lemmas.Result.{err_from_is_err_and}
 use Rattle.desk_codec.specs.Version.{is_new_entry}
 use Rattle.desk_saved.specs.Contents.{trees_of}
 use Rattle.desk_saved.specs.File.{HasNoLogFile}
+use Rattle.desk_saved.specs.Reads.{HasLogTables}
 use Rattle.desk_types.specs.declared.limits.TheConstants.{FIRST_LOG_ENTRIES}
+use Rattle.desk_saved.proofs.TableReads.{read_as, read_err}
 use Rattle.desk_saved.proofs.Restarts.{same_log}
 use Rattle.desk_saved.proofs.old_file.load_old.Goals as goal
 
@@ -34,17 +36,19 @@ returns-clause-found g c clean d schema =
     (c.are_old-is_old.ensures.0 old) in
     (record { state = found.0; within = fits.0; older = fits.1 }, found.1)
 
-pub returns-in_err-saved-clause-want_of_memory : goal.returns-in_err-saved-clause-want_of_memory
-returns-in_err-saved-clause-want_of_memory g c clean d schema =
+pub returns-in_err-saved-clause-read : goal.returns-in_err-saved-clause-read
+returns-in_err-saved-clause-read g c =
     let p = err_from_is_err_and c.from_residual.result c.from_residual.ensures.1 in
-    rw (p.1, p.2) (c.in_err-saved.ensures.want_of_memory clean d schema)
+    rw (p.1, p.2) (read_err g.S.Store _ _ HasLogTables _ c.in_err-saved.ensures.read)
 
-pub returns-in_err-saved-clause-store_fault : goal.returns-in_err-saved-clause-store_fault
-returns-in_err-saved-clause-store_fault g c clean settled d schema =
-    let p = err_from_is_err_and c.from_residual.result c.from_residual.ensures.1 in
-    rw (p.1, p.2) (c.in_err-saved.ensures.store_fault clean settled d schema)
+pub returns-in_default-clause-read : goal.returns-in_default-clause-read
+returns-in_default-clause-read g c =
+    read_as g.S.Store _ _ HasLogTables _ _ c.in_ok-saved.ensures.read
 
-pub returns-in_err-saved-clause-cause : goal.returns-in_err-saved-clause-cause
-returns-in_err-saved-clause-cause g c clean d schema =
-    let p = err_from_is_err_and c.from_residual.result c.from_residual.ensures.1 in
-    rw (p.1, p.2) (c.in_err-saved.ensures.cause clean d schema)
+pub returns-then-not-is_old-clause-read : goal.returns-then-not-is_old-clause-read
+returns-then-not-is_old-clause-read g c =
+    read_as g.S.Store _ _ HasLogTables _ _ c.in_ok-saved.ensures.read
+
+pub returns-clause-read : goal.returns-clause-read
+returns-clause-read g c =
+    read_as g.S.Store _ _ HasLogTables _ _ c.in_ok-saved.ensures.read
