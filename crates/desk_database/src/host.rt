@@ -16,9 +16,9 @@ use sqlite_std_file::OpenError;
 use std::hash::{BuildHasher, RandomState};
 use std::io::ErrorKind;
 
-const CANNOT_OPEN: Error = Error::SqliteFailure(ErrorCode::CannotOpen);
+pub(crate) const CANNOT_OPEN: Error = Error::SqliteFailure(ErrorCode::CannotOpen);
 
-const NO_MEMORY: Error = Error::SqliteFailure(ErrorCode::OutOfMemory);
+pub(crate) const NO_MEMORY: Error = Error::SqliteFailure(ErrorCode::OutOfMemory);
 
 /// The file of this name and the log beside it, locked, and made where they are missing. As in `sqlite`, `:memory:` and
 /// a URI are refused.

@@ -1,5 +1,6 @@
 pub mod Closing
 pub mod Faults
 pub mod Keys
+pub mod Names
 pub mod Reading
 pub mod Unopened

@@ -151,7 +151,7 @@ fn why_unopened(error: &Error) -> Option<&'static str>
 }
 
 /// A file's name, as what is told of it names it.
-fn shown(name: &str) -> &str {
+pub(crate) fn shown(name: &str) -> &str {
     if name.is_empty() {
         return "a file without a name";
     }

@@ -1,0 +1,4 @@
+pub mod ArchivedStates
+pub mod Instants
+pub mod LinesInOrder
+pub mod Named

@@ -1,0 +1,202 @@
+//! The committed commands that the files of a node keep, as document lines on the standard output.
+
+ghost use Rattle.std.specs.Prelude.{◌≡◌, ◌≤◌, IfErr, IfOk, string_bytes};
+ghost use Rattle.desk_output.specs.Telling.{TellsFirst};
+ghost use Rattle.desk_output.specs.declared.telling.TheConstants.{FAILED};
+ghost use Rattle.desk_file.specs.Names.{name_in_epoch};
+
+use crate::faults::{shown, unopened_status};
+use desk_archive::{Archived, archive_database, archived_owner};
+use desk_database::open_copy;
+use desk_options::LogOptions;
+use desk_output::LinePart::Text;
+use desk_output::{flush, outcome_status, refusal_status, refusal_status_with};
+use desk_types::limits::LOG_ENTRIES;
+use desk_types::{Owner, Refusal};
+use sqlite::{Alter, Connection, FileStore};
+use sqlite_disk::Memory;
+use std::alloc::{AllocError, Global};
+use std::fs;
+use std::io::{BufWriter, Write};
+
+/// The name of the file in which a node keeps its state in an epoch: its first file has the name itself, and each other
+/// one the epoch's number after a dot.
+fn name_in_epoch(alloc: Global, file: &str, epoch: u64) -> Result<String, AllocError>
+    ensures { IfOk result (λ name. string_bytes name ≡ name_in_epoch file.now epoch) }
+{
+    if epoch == 0 {
+        return String::from_str(alloc, file);
+    }
+    format!(in alloc; "{}.{}", file, epoch)
+}
+
+/// Tells the standard error what ended the archive of a file, and answers the exit status.
+fn unarchived_status<E: Write>(errors: &mut E, name: &str, refusal: &Refusal) -> u8
+    ensures status { result ≡ FAILED }
+    ensures printed { TellsFirst (E.contents errors.old) (E.contents errors.new) refusal.now }
+{
+    let why = match refusal {
+        Refusal::WrongFile =>
+            " holds no saved state of a node, or not that of the files before it\n",
+        Refusal::StoreFault => " can not be read\n",
+        _ => return refusal_status(errors, refusal),
+    };
+    let more = [Text("desk: "), Text(shown(name)), Text(why)];
+    refusal_status_with(errors, refusal, &more)
+}
+
+/// Tells the standard error that a file is missing, and answers the exit status.
+fn missing_status<E: Write>(errors: &mut E, name: &str) -> u8
+    ensures status { result ≡ FAILED }
+{
+    refusal_status_with(
+        errors,
+        &Refusal::WrongFile,
+        &[Text("desk: "), Text(shown(name)), Text(" is missing\n")],
+    )
+}
+
+/// How far an archive has come.
+#[derive(Drop)]
+struct Progress {
+    /// The node whose files came before, where there are any.
+    owner: Option<Owner>,
+    /// How many places they have.
+    past: u64,
+}
+
+/// Writes the lines of a copy of a node's file from a place on, and tells its node and how many entries are committed.
+fn archive_copied<S: Alter, W: Write>(
+    alloc: Global,
+    writer: &mut W,
+    connection: Connection<S>,
+    before: &Progress,
+    from: u64,
+) -> (Connection<S>, Result<(Owner, u64), Refusal>) {
+    let mut connection = connection;
+    let owner = match archived_owner(alloc, &mut connection, &before.owner) {
+        Ok(owner) => owner,
+        Err(refusal) => return (connection, Err(refusal)),
+    };
+    let Ok(preserved) = owner.copy() else {
+        return (connection, Err(Refusal::WantOfMemory));
+    };
+    let Archived { connection, result } = archive_database(
+        alloc,
+        writer,
+        connection,
+        preserved,
+        before.past,
+        from,
+    );
+    match result {
+        Ok(committed) => (connection, Ok((owner, committed))),
+        Err(refusal) => (connection, Err(refusal)),
+    }
+}
+
+/// The same of a copy in memory, which is dropped.
+// The only function here over the files of the host: each proof of such a one goes over all parts of their store.
+fn archive_copy<W: Write>(
+    alloc: Global,
+    writer: &mut W,
+    connection: Connection<FileStore<Memory>>,
+    before: &Progress,
+    from: u64,
+) -> Result<(Owner, u64), Refusal> {
+    let (connection, archived) = archive_copied(alloc, writer, connection, before, from);
+    drop(connection.into_store().close());
+    archived
+}
+
+/// Writes the lines of the file of this name from a place on, where it is there. Else the standard error is told of a
+/// fault, and the exit status is the answer.
+fn archive_file<W: Write>(
+    host: &HostRuntime,
+    writer: &mut W,
+    name: &str,
+    before: &Progress,
+    from: u64,
+) -> Result<Option<(Owner, u64)>, u8>
+    ensures { IfErr result (λ status. status ≡ FAILED) }
+{
+    let connection = match open_copy(host, name) {
+        Ok(Some(connection)) => connection,
+        Ok(None) => return Ok(None),
+        Err(error) => return Err(unopened_status(&mut host.stderr(), name, &error)),
+    };
+    match archive_copy(host.alloc(), writer, connection, before, from) {
+        Ok(found) => Ok(Some(found)),
+        Err(refusal) => Err(unarchived_status(&mut host.stderr(), name, &refusal)),
+    }
+}
+
+/// Whether a desk may have no file of an epoch after one that is over. A desk of one file has none after that.
+fn may_lack(host: &HostRuntime, file: &str, epoch: u64) -> bool {
+    if epoch != 1 {
+        return false;
+    }
+    match name_in_epoch(host.alloc(), file, 2) {
+        Ok(name) => matches!(fs::exists(host, name.as_str()), Ok(false)),
+        Err(_) => false,
+    }
+}
+
+/// Writes the lines of a node's files, one after the other, from a place on. Where a file is over, that of the next
+/// epoch follows.
+fn archive_files<W: Write>(
+    host: &HostRuntime,
+    writer: &mut W,
+    options: &LogOptions,
+) -> Result<(), u8>
+    ensures { IfErr result (λ status. status ≡ FAILED) }
+{
+    let file = options.file.as_str();
+    let mut before = Progress {
+        owner: None,
+        past: 0,
+    };
+    for epoch in 0..u64::MAX {
+        let Ok(name) = name_in_epoch(host.alloc(), file, epoch) else {
+            return Err(refusal_status(&mut host.stderr(), &Refusal::WantOfMemory));
+        };
+        let (owner, committed) = match archive_file(
+            host,
+            writer,
+            name.as_str(),
+            &before,
+            options.from,
+        ) {
+            Ok(Some(found)) => found,
+            Ok(None) if may_lack(host, file, epoch) => return Ok(()),
+            Ok(None) => return Err(missing_status(&mut host.stderr(), name.as_str())),
+            Err(status) => return Err(status),
+        };
+        if committed < LOG_ENTRIES {
+            return Ok(());
+        }
+        before = Progress {
+            owner: Some(owner),
+            past: before.past.saturating_add(committed),
+        };
+    }
+    Ok(())
+}
+
+/// Prints the document lines of the commands that a node's files have committed, from a place on, in the order of their
+/// places, and answers the exit status. Each file is copied into memory first, with the log beside it, and none is
+/// changed or made. After a fault its number and name stand in the standard error, and the lines before it are printed:
+/// a file that a node has open or that can not be read is 41, one that is missing or another node's 45.
+pub fn log_file(host: &HostRuntime, options: LogOptions) -> u8
+    ensures { result ≤ FAILED }
+{
+    let Ok(mut output) = BufWriter::new(host.alloc(), host.stdout()) else {
+        return refusal_status(&mut host.stderr(), &Refusal::WantOfMemory);
+    };
+    let archived = archive_files(host, &mut output, &options);
+    let flushed = flush(&mut output);
+    match archived {
+        Ok(()) => outcome_status(&mut host.stderr(), &flushed),
+        Err(status) => status,
+    }
+}
