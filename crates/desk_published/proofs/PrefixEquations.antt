@@ -1,5 +1,5 @@
 -- Prefixes of a list, as an equation and with what comes after; and what a publish leaves.
-use Rattle.std.proofs.Common.{◌≡◌, ◌≢◌, ℕ, zero, suc, ◌≤◌, ◌<◌, List, [], ◌∷◌, ◌++◌, length, take, drop, refl, sym}
+use Rattle.std.proofs.Common.{◌≡◌, ◌≢◌, ℕ, zero, suc, ◌≤◌, ◌<◌, ◌+◌, List, [], ◌∷◌, ◌++◌, length, take, drop, refl, sym}
 use Rattle.std.proofs.Common.{◌∙◌, ap}
 use Rattle.std.proofs.Common.{append_assoc, append-nil, arith, length-append, get_or, Bool, true, false, nat_eq, Result}
 use Rattle.std.proofs.Common.{Ok, Err, MatchResult, MatchBool}
@@ -40,15 +40,28 @@ no_rest xs [] ys e le = sym (append-nil xs) ∙ e
 no_rest xs (r ∷ rest) ys e le = absurd (omega (arith, ap length e, length-append xs (r ∷ rest)))
 
 -- a prefix with the next of the list
-pub next_front : {A : Type 0} (xs log : List A) (n : ℕ) (x : A) → IsPrefix xs (take n log) →
-    length xs < n → n ≤ length log → x ≡ get_or log (length xs) x → IsPrefix (xs ++ x ∷ []) (take n log)
-next_front [] [] n x p lt le e = absurd (omega arith)
-next_front [] (y ∷ ys) zero x p lt le e = absurd (omega arith)
-next_front [] (y ∷ ys) (suc n) x p lt le e = (take n ys, ap (λ w. w ∷ take n ys) e)
-next_front (z ∷ zs) [] n x p lt le e = absurd (omega arith)
-next_front (z ∷ zs) (y ∷ ys) zero x p lt le e = absurd (omega arith)
-next_front (z ∷ zs) (y ∷ ys) (suc n) x p lt le e =
-    let r = next_front zs ys n x (p.0, cc p.1) (omega arith) (omega arith) e in (r.0, cc (p.1, r.1))
+next_of : {A : Type 0} (xs log : List A) (x : A) → IsPrefix xs log → length xs < length log →
+    x ≡ get_or log (length xs) x → IsPrefix (xs ++ x ∷ []) log
+next_of [] [] x p lt e = absurd (omega arith)
+next_of [] (y ∷ ys) x p lt e = (ys, ap (λ w. w ∷ ys) e)
+next_of (z ∷ zs) [] x p lt e = absurd (omega arith)
+next_of (z ∷ zs) (y ∷ ys) x p lt e = let r = next_of zs ys x (p.0, cc p.1) (omega arith) e in (r.0, cc (p.1, r.1))
+
+-- and where the list goes on with entries after a front of it
+pub next_after : {A : Type 0} (front xs log : List A) (k : ℕ) (x : A) → IsPrefix xs (front ++ log) →
+    length xs ≡ length front + k → k < length log → x ≡ get_or log k x → IsPrefix (xs ++ x ∷ []) (front ++ log)
+next_after [] xs log k x p at lt e =
+    let same : length xs ≡ k = omega (arith, at) in
+    next_of xs log x p (omega (arith, same, lt)) (e ∙ ap (λ (i : ℕ). get_or log i x) (sym same))
+next_after (f ∷ front) [] log k x p at lt e = absurd (omega (arith, at))
+next_after (f ∷ front) (y ∷ xs) log k x p at lt e =
+    let r = next_after front xs log k x (p.0, cc p.1) (omega (arith, at)) lt e in (r.0, cc (p.1, r.1))
+
+-- how many entries are the first so many of a list with others after them
+pub length_followed : {A : Type 0} (base : ℕ) (list entries : List A) → base ≤ length list →
+    length (take base list ++ entries) ≡ base + length entries
+length_followed base list entries le =
+    length-append (take base list) entries ∙ ap (λ n. n + length entries) (length_take base list le)
 
 -- all that was noted, after a publish
 pub all_after : {A E X : Type 0} (r : Result X E) (front old now pending left rest : List A) →

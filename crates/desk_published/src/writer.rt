@@ -1,13 +1,13 @@
 //! The writer of the published board: it publishes what a node has committed.
 
-ghost use Rattle.std.specs.Prelude.{◌≡◌, ◌≢◌, ◌≤◌, ◌<◌, ◌^◌, [], ◌∷◌, ◌++◌, None, take, length, is_some, IfOk, OnOk};
-ghost use Rattle.std.specs.Prelude.{IfSome, IsTrue, MatchBool, MatchResult, false};
+ghost use Rattle.std.specs.Prelude.{◌≡◌, ◌≢◌, ◌≤◌, ◌<◌, ◌^◌, [], ◌∷◌, ◌++◌, None, length, is_some, IfOk, OnOk};
+ghost use Rattle.std.specs.Prelude.{◌==◌, ◌+◌, IfSome, IsTrue, MatchBool, MatchResult, false};
 ghost use mathlib.Core.List.{IsPrefix};
 ghost use Rattle.left_right.specs.Sides.{view};
 ghost use Rattle.desk_log.specs.SavedValue.{committed_entries};
 ghost use Rattle.desk_published.specs.PrefixRule.{has_seen};
 ghost use Rattle.desk_published.specs.Reported.{is_request_at};
-ghost use Rattle.desk_published.specs.Writer.{as_list, EqualsPrefix, published, pending};
+ghost use Rattle.desk_published.specs.Writer.{as_list, EqualsPrefix, followed_by, published, pending};
 ghost use Rattle.desk_published.specs.declared.limits.TheConstants.{HISTORY_ENTRIES};
 ghost use Rattle.desk_published.specs.declared.reported.ReportedWord.TheVariants as words;
 
@@ -98,6 +98,13 @@ fn publish_pending<B: BoardName, R: Wait>(
     inner.publish_as::<Publish, R>(rt)
 }
 
+// Whether a list of so many entries ends `count` after its first `base`.
+fn reaches(len: u64, base: u64, count: u64) -> bool
+    ensures { result ≡ (len == base + count) }
+{
+    len >= base && len - base == count
+}
+
 impl<B: BoardName> BoardWriter<B> {
     /// A writer of an empty list, with room for so many readers.
     pub fn new(
@@ -180,16 +187,16 @@ impl<B: BoardName> BoardWriter<B> {
         }
     }
 
-    // Notes what is committed, as far as there is memory.
-    fn note_committed(&mut self, log: &[Entry], commit: u64)
-        requires within { commit ≤ length log.now }
-        requires noted { IsPrefix self.old.noted (take commit log.now) }
+    // Notes entries that stand after the first `base` of those that were noted, as far as there is memory.
+    fn note_after(&mut self, base: u64, entries: &[Entry])
+        requires past { base ≤ length self.old.noted }
+        requires noted { IsPrefix self.old.noted (followed_by base self.old.noted entries.now) }
         ensures desk { self.new.inner.desk ≡ self.old.inner.desk }
-        ensures noted { IsPrefix self.new.noted (take commit log.now) }
+        ensures noted { IsPrefix self.new.noted (followed_by base self.old.noted entries.now) }
     {
         self.retry();
-        for k in self.noted_len()..commit {
-            let Ok(copy) = log[k as usize].copy() else {
+        for k in self.noted_len() - base..entries.len() as u64 {
+            let Ok(copy) = entries[k as usize].copy() else {
                 break;
             };
             if !self.note(copy) {
@@ -198,18 +205,19 @@ impl<B: BoardName> BoardWriter<B> {
         }
     }
 
-    // Publishes the first entries of a log, as far as there is memory. Says whether they are all published.
-    fn publish_first<R: Wait>(self, rt: &R, log: &[Entry], commit: u64) -> (BoardWriter<B>, bool)
-        requires within { commit ≤ length log.now }
-        requires noted { IsPrefix self.noted (take commit log.now) }
-        ensures noted { IsPrefix result.0.noted (take commit log.now) }
+    // Publishes entries that stand after the first `base` of those that were noted, as far as there is memory. Says
+    // whether they are all published.
+    fn publish_noted<R: Wait>(self, rt: &R, base: u64, entries: &[Entry]) -> (BoardWriter<B>, bool)
+        requires past { base ≤ length self.noted }
+        requires noted { IsPrefix self.noted (followed_by base self.noted entries.now) }
+        ensures noted { IsPrefix result.0.noted (followed_by base self.noted entries.now) }
         ensures grows { IsPrefix (published self.inner) (published result.0.inner) }
-        ensures published { IsPrefix (published result.0.inner) (take commit log.now) }
-        ensures whole { MatchBool result.1 (published result.0.inner ≡ take commit log.now)
-            (published result.0.inner ≢ take commit log.now) }
+        ensures published { IsPrefix (published result.0.inner) (followed_by base self.noted entries.now) }
+        ensures whole { MatchBool result.1 (published result.0.inner ≡ followed_by base self.noted entries.now)
+            (published result.0.inner ≢ followed_by base self.noted entries.now) }
     {
         let mut writer = self;
-        writer.note_committed(log, commit);
+        writer.note_after(base, entries);
         let BoardWriter {
             inner,
             end,
@@ -218,7 +226,11 @@ impl<B: BoardName> BoardWriter<B> {
         } = writer;
         let (inner, outcome) = publish_pending(rt, inner);
         let _ = outcome;
-        let whole = inner.published().history().len() == commit;
+        let whole = reaches(
+            inner.published().history().len(),
+            base,
+            entries.len() as u64,
+        );
         (
             BoardWriter {
                 inner,
@@ -244,10 +256,37 @@ impl<B: BoardName> BoardWriter<B> {
             (published result.0.inner ≢ committed_entries saved.now) }
         ensures unwanted { wanted ≡ false → (result.0 ≡ self) × (result.1 ≡ false) }
     {
+        // What is committed stands in the log.
+        prove!(saved.commit() <= saved.log().len());
+        let committed = &saved.log().entries()[..saved.commit() as usize];
+        self.publish_after(rt, 0, committed, wanted)
+    }
+
+    /// Publishes entries that stand after the first `base` of those that were noted, as far as there is memory, where
+    /// that is wanted; it waits for readers that are still in what was published before the last time. True exactly
+    /// where all of them are published then; where nothing is wanted it is false, and nothing changes. What was noted
+    /// after the first `base` has to be a prefix of the entries.
+    pub fn publish_after<R: Wait>(
+        self,
+        rt: &R,
+        base: u64,
+        entries: &[Entry],
+        wanted: bool,
+    ) -> (BoardWriter<B>, bool)
+        requires past { base ≤ length self.noted }
+        requires noted { EqualsPrefix self.noted (followed_by base self.noted entries.now) }
+        ensures noted { EqualsPrefix result.0.noted (followed_by base self.noted entries.now) }
+        ensures grows { IsPrefix (published self.inner) (published result.0.inner) }
+        ensures published { IsPrefix (published result.0.inner) (followed_by base self.noted entries.now) }
+        ensures whole { IsTrue wanted → MatchBool result.1
+            (published result.0.inner ≡ followed_by base self.noted entries.now)
+            (published result.0.inner ≢ followed_by base self.noted entries.now) }
+        ensures unwanted { wanted ≡ false → (result.0 ≡ self) × (result.1 ≡ false) }
+    {
         if !wanted {
             return (self, false);
         }
-        self.publish_first(rt, saved.log().entries(), saved.commit())
+        self.publish_noted(rt, base, entries)
     }
 
     /// A reader, whose pass is what is published. Err also where there are as many readers as there is room for.

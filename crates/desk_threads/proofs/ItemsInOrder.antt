@@ -4,19 +4,10 @@ use Rattle.std.proofs.Common.{append_assoc, append-nil}
 use Rattle.desk_types.specs.declared.packet.Message.{Message}
 use Rattle.desk_mailbox.specs.declared.item.Item.{Item}
 use Rattle.desk_node.specs.Heard.{Says}
-use Rattle.desk_node.specs.NodeValue.{NodeValue, IsSameNode}
+use Rattle.desk_node.specs.NodeValue.{IsSameNode}
 use Rattle.desk_threads.specs.Keeper.{KeeperState, KeeperStep, keeper_step, refused_one, TakesItem, TakesItems}
+use Rattle.desk_threads.specs.NodeInOrder.{same_refl, same_trans}
 use Rattle.desk_threads.specs.OwnedValue.{OwnedValue, state_of, IsStateOf, DoesItem, with_one_refused, DoesItems}
-
-same_refl : (a : NodeValue) → IsSameNode a a
-same_refl a = record { domain_is = refl; id_is = refl; n_is = refl }
-
-same_trans : (a b c : NodeValue) → IsSameNode a b → IsSameNode b c → IsSameNode a c
-same_trans a b c h k = record {
-  domain_is = k.domain_is ∙ h.domain_is;
-  id_is = k.id_is ∙ h.id_is;
-  n_is = k.n_is ∙ h.n_is;
-}
 
 preserved_then : (domain : List ℕ) (i n : ℕ) (k m new : KeeperState) (items more : List Item)
     (packets others : List (ℕ × Message)) → TakesItems domain i n k items packets m →

@@ -7,10 +7,12 @@ pub mod EndingItems
 pub mod TurnSteps
 pub mod TurnTelling
 pub mod TurnEnds
+pub mod SavedTurns
 pub mod ReportedAnswers
 pub mod IdleSessions
 pub mod Items
 pub mod SessionLoops
 pub mod ItemsInOrder
+pub mod ReplicaItems
 pub mod ItemAnswers
 pub mod SentWords

@@ -4,11 +4,11 @@ use Rattle.std.proofs.Common.{Option, option_to_list, sym, ◌≢◌, MatchBool}
 use Rattle.std.specs.List.{AllZip}
 use mathlib.Core.List.{IsPrefix}
 use Rattle.desk_types.specs.declared.command.Entry.{Entry}
-use Rattle.desk_types.specs.declared.outcome.Outcome.{Outcome}
 use Rattle.desk_log.specs.SavedValue.{committed_entries}
 use Rattle.desk_mailbox.specs.declared.item.Item.{Item}
 use Rattle.desk_mailbox.specs.declared.rule.SentItem.{SentItem}
-use Rattle.desk_node.specs.declared.step.Step.{Step}
+use Rattle.desk_threads.specs.declared.answer.Answer.{Answer}
+use Rattle.desk_threads.specs.declared.item_step.ItemStep.{ItemStep}
 use Rattle.desk_log.specs.declared.state_store.StateStore.{Ghosts as StoreGhosts}
 use Rattle.desk_threads.specs.declared.handing.Out.{Ghosts}
 use Rattle.desk_threads.specs.OwnedValue.{OwnedValue, DoesItems}
@@ -29,7 +29,7 @@ fewer : (n m most : ℕ) → n ≡ m → m < most → n < most
 fewer n m most e less = omega (arith, e, less)
 
 -- the sessions of a turn, whose answers are those of its steps
-reported_by : (list : List Entry) (xs ys : List Outcome) (noted new : List SessionValue) (late : Option Item) →
+reported_by : (list : List Entry) (xs ys : List Answer) (noted new : List SessionValue) (late : Option Item) →
     xs ≡ ys →
     (heard : List SessionValue) × AllZip (HearsAll xs) noted heard × TellsRoundLate list late heard new →
     (heard : List SessionValue) × AllZip (HearsAll ys) noted heard × TellsRoundLate list late heard new
@@ -37,7 +37,7 @@ reported_by list xs ys noted new late e (heard, a, b) = (heard, subst (λ w. All
 
 -- a turn that was saved
 pub saved_turn : {O S : Type 0} (g : Ghosts O) (s : StoreGhosts S) (most : ℕ) (item : Item)
-    (sent : List (SentItem Item)) (first last : List Step) (old new : Stand O S) (noted : List SessionValue)
+    (sent : List (SentItem Item)) (first last : List ItemStep) (old new : Stand O S) (noted : List SessionValue)
     (late : Option Item) → length sent < most → OnlyLastEnds (item ∷ items_in sent) → first ≡ [] →
     DidMore old.owned first (item ∷ items_in sent) new.owned last →
     NotesItems (item ∷ items_in sent) old.waiting noted late → IsFiled s old.store new.store new.owned.node.saved →
@@ -77,7 +77,7 @@ unsaved_turn list turn old noted new late notes reported =
     subst (λ w. AllZip (Tells list) (map after_stop w) new) (notes_all turn old noted late notes) reported
 
 -- the items of a turn that was not saved
-pub unsaved_items : {O S : Type 0} (s : StoreGhosts S) (turn : List Item) (first last : List Step)
+pub unsaved_items : {O S : Type 0} (s : StoreGhosts S) (turn : List Item) (first last : List ItemStep)
     (old new : Stand O S) (from made : OwnedValue) (store : S) → from ≡ old.owned → new.owned ≡ made →
     new.store ≡ store → DidMore from first turn made last →
     IsUnfiled s old.store store from.node.saved made.node.saved → DoesUnsaved s turn old new

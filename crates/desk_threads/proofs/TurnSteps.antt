@@ -3,132 +3,114 @@ use Rattle.std.proofs.Common.{◌≡◌, ◌++◌, ◌<◌, ◌≤◌, ℕ, ◌+
 use Rattle.std.proofs.Common.{append-nil, length, length-append, arith, Result, Ok, Err, OnOk, IfOk, OnErr, IfErr}
 use Rattle.std.proofs.Common.{Option, None, inl, inr}
 use Rattle.std.specs.List.{AllZip}
-use Rattle.desk_types.specs.declared.outcome.Outcome.{Outcome}
 use Rattle.desk_types.specs.declared.packet.Message.{Message}
 use Rattle.desk_mailbox.specs.declared.item.Item.{Item}
 use Rattle.desk_mailbox.specs.declared.rule.SentItem.{SentItem}
-use Rattle.desk_node.specs.declared.step.Step.{Step}
-use Rattle.desk_node.specs.NodeValue.{IsSameNode}
-use Rattle.desk_threads.specs.OwnedValue.{OwnedValue, DoesItem, with_one_refused}
+use Rattle.desk_threads.specs.declared.item_step.ItemStep.{ItemStep}
+use Rattle.desk_threads.specs.OwnedValue.{OwnedValue}
 use Rattle.desk_threads.specs.Waiting.{SessionValue, HearsAll}
-use Rattle.desk_threads.proofs.ItemsInOrder.{keeps_none, keeps_one, keeps_refused, keeps_then}
-use Rattle.desk_threads.specs.Turns.{packets_of_steps, answers_of_steps, DidMore, TookMore, NotesMore}
-use Rattle.desk_threads.specs.declared.handing.Out.{Ghosts}
+use Rattle.desk_threads.proofs.ReplicaItems.{meets_one, meets_then, node_items, node_replica}
+use Rattle.desk_threads.specs.Turns.{packets_of_steps, answers_of_steps, DidMore, MetMore, TookMore, NotesMore}
+use Rattle.desk_threads.specs.declared.handing.Out.{Ghosts as OutGhosts}
+use Rattle.desk_threads.specs.declared.replica.Replica.{Ghosts}
 use Rattle.desk_threads.specs.Runs.{items_in}
-use Rattle.desk_threads.specs.ItemAnswers.{Answers}
-use Rattle.desk_threads.specs.Telling.{AnswersItems, NotesItems}
+use Rattle.desk_threads.specs.Telling.{NotesItems}
 use Rattle.desk_threads.proofs.KeeperRuns.{TakesThen, items_then}
 use Rattle.desk_threads.proofs.TurnTelling.{notes_then, hears_then}
 
-pub packets_then : (xs ys : List Step) → packets_of_steps (xs ++ ys) ≡ packets_of_steps xs ++ packets_of_steps ys
+pub packets_then : (xs ys : List ItemStep) → packets_of_steps (xs ++ ys) ≡ packets_of_steps xs ++ packets_of_steps ys
 packets_then [] ys = refl
 packets_then (x ∷ xs) ys =
     ap (λ w. x.packets.items ++ w) (packets_then xs ys)
     ∙ sym (append_assoc x.packets.items (packets_of_steps xs) (packets_of_steps ys))
 
-answers_push : (xs : List Step) (s : Step) → answers_of_steps (xs ++ s ∷ []) ≡ answers_of_steps xs ++ s.answers.items
-answers_push [] s = append-nil s.answers.items
+answers_push : (xs : List ItemStep) (s : ItemStep) →
+    answers_of_steps (xs ++ s ∷ []) ≡ answers_of_steps xs ++ s.answers
+answers_push [] s = append-nil s.answers
 answers_push (x ∷ xs) s =
-    ap (λ w. x.answers.items ++ w) (answers_push xs s)
-    ∙ sym (append_assoc x.answers.items (answers_of_steps xs) s.answers.items)
+    ap (λ w. x.answers ++ w) (answers_push xs s)
+    ∙ sym (append_assoc x.answers (answers_of_steps xs) s.answers)
 
 -- the answers of one step more were heard
-pub heard_push : (xs : List Step) (s : Step) (old mid new : List SessionValue) →
-    AllZip (HearsAll (answers_of_steps xs)) old mid → AllZip (HearsAll s.answers.items) mid new →
+pub heard_push : (xs : List ItemStep) (s : ItemStep) (old mid new : List SessionValue) →
+    AllZip (HearsAll (answers_of_steps xs)) old mid → AllZip (HearsAll s.answers) mid new →
     AllZip (HearsAll (answers_of_steps (xs ++ s ∷ []))) old new
 heard_push xs s old mid new one more =
     subst (λ w. AllZip (HearsAll w) old new) (sym (answers_push xs s))
-    (hears_then (answers_of_steps xs) s.answers.items old mid new one more)
+    (hears_then (answers_of_steps xs) s.answers old mid new one more)
 
-packets_push : (xs : List Step) (s : Step) → packets_of_steps (xs ++ s ∷ []) ≡ packets_of_steps xs ++ s.packets.items
+packets_push : (xs : List ItemStep) (s : ItemStep) →
+    packets_of_steps (xs ++ s ∷ []) ≡ packets_of_steps xs ++ s.packets.items
 packets_push xs s = packets_then xs (s ∷ []) ∙ ap (λ w. packets_of_steps xs ++ w) (append-nil s.packets.items)
 
 -- the packets of one step more were handed out
-pub gave_push : {O : Type 0} (g : Ghosts O) → TakesThen g → (old mid new : O) (xs : List Step) (s : Step)
+pub gave_push : {O : Type 0} (g : OutGhosts O) → TakesThen g → (old mid new : O) (xs : List ItemStep) (s : ItemStep)
     (packets : List (ℕ × Message)) → packets ≡ s.packets.items → g.takes old (packets_of_steps xs) mid →
     g.takes mid packets new → g.takes old (packets_of_steps (xs ++ s ∷ [])) new
 gave_push g more old mid new xs s packets e a b =
     subst (λ t. g.takes old t new) (ap (λ q. packets_of_steps xs ++ q) e ∙ sym (packets_push xs s))
     (more old mid new (packets_of_steps xs) packets a b)
 
-answers_then : (k m new : OwnedValue) (xs ys : List Item) (b c : List Outcome) → AnswersItems k xs b m →
-    AnswersItems m ys c new → AnswersItems k (xs ++ ys) (b ++ c) new
-answers_then k m new [] ys b c (e, f) h =
-    subst (λ w. AnswersItems k ys (w ++ c) new) (sym e) (subst (λ (x : OwnedValue). AnswersItems x ys c new) f h)
-answers_then k m new (x ∷ xs) ys b c (mid, first, rest, e, one, more) h = (
-  mid,
-  first,
-  rest ++ c,
-  ap (λ w. w ++ c) e ∙ append_assoc first rest c,
-  one,
-  answers_then mid m new xs ys rest c more h,
-)
-
-pub did_none : (k : OwnedValue) (steps : List Step) → DidMore k steps [] k steps
-did_none k steps = (
+pub met_none : {R : Type 0} (g : Ghosts R) (k : R) (steps : List ItemStep) → MetMore g k steps [] k steps
+met_none g k steps = (
   [],
   [],
   sym (append-nil (packets_of_steps steps)),
   sym (append-nil (answers_of_steps steps)),
-  keeps_none k,
-  (refl, refl),
+  (refl, refl, refl),
 )
 
-pub did_then : (k m new : OwnedValue) (steps mid after : List Step) (xs ys : List Item) → DidMore k steps xs m mid →
-    DidMore m mid ys new after → DidMore k steps (xs ++ ys) new after
-did_then k m new steps mid after xs ys (p, b, e, i, a, n) (q, c, f, j, h, o) = (
+pub met_then : {R : Type 0} (g : Ghosts R) (k m new : R) (steps mid after : List ItemStep) (xs ys : List Item) →
+    MetMore g k steps xs m mid → MetMore g m mid ys new after → MetMore g k steps (xs ++ ys) new after
+met_then g k m new steps mid after xs ys (p, b, e, i, a) (q, c, f, j, h) = (
   p ++ q,
   b ++ c,
   f ∙ ap (λ w. w ++ q) e ∙ append_assoc (packets_of_steps steps) p q,
   j ∙ ap (λ w. w ++ c) i ∙ append_assoc (answers_of_steps steps) b c,
-  keeps_then k m new xs ys p q a h,
-  answers_then k m new xs ys b c n o,
+  meets_then g k m new xs ys p q b c a h,
 )
 
 -- one item was done
-pub did_one : (k new : OwnedValue) (steps after : List Step) (step : Step) (item : Item) → after ≡ steps ++ step ∷ [] →
-    DoesItem k item step.packets.items new → Answers k item step.answers.items → IsSameNode k.node new.node →
-    DidMore k steps (item ∷ []) new after
-did_one k new steps after step item is does answers same = (
+pub met_one : {R : Type 0} (g : Ghosts R) (k new : R) (steps after : List ItemStep) (step : ItemStep) (item : Item) →
+    after ≡ steps ++ step ∷ [] → g.does k item step.packets.items step.answers new →
+    MetMore g k steps (item ∷ []) new after
+met_one g k new steps after step item is does = (
   step.packets.items,
-  step.answers.items,
+  step.answers,
   ap packets_of_steps is ∙ packets_push steps step,
   ap answers_of_steps is ∙ answers_push steps step,
-  keeps_one k new item step.packets.items does same,
-  (
-    new,
-    step.answers.items,
-    [],
-    sym (append-nil step.answers.items),
-    inl (step.packets.items, does, answers),
-    (refl, refl),
-  ),
+  meets_one g k new item step.packets.items step.answers (inl does),
 )
 
 -- one item was refused
-pub did_refused : (k new : OwnedValue) (steps after : List Step) (item : Item) → after ≡ steps →
-    new ≡ with_one_refused k → DidMore k steps (item ∷ []) new after
-did_refused k new steps after item is refused = (
+pub met_refused : {R : Type 0} (g : Ghosts R) (k new : R) (steps after : List ItemStep) (item : Item) → after ≡ steps →
+    g.refuses k new → MetMore g k steps (item ∷ []) new after
+met_refused g k new steps after item is refused = (
   [],
   [],
   ap packets_of_steps is ∙ sym (append-nil (packets_of_steps steps)),
   ap answers_of_steps is ∙ sym (append-nil (answers_of_steps steps)),
-  keeps_refused k new item refused,
-  (new, [], [], refl, inr (refl, refused), (refl, refl)),
+  meets_one g k new item [] [] (inr (refl, refl, refused)),
 )
 
-pub took_none : (taken : List (SentItem Item)) (k : OwnedValue) (steps : List Step) →
-    TookMore taken k steps [] taken k steps
-took_none taken k steps = (sym (append-nil taken), did_none k steps)
+pub took_none : {R : Type 0} (g : Ghosts R) (taken : List (SentItem Item)) (k : R) (steps : List ItemStep) →
+    TookMore g taken k steps [] taken k steps
+took_none g taken k steps = (sym (append-nil taken), met_none g k steps)
 
-pub took_then : (taken between now : List (SentItem Item)) (k m new : OwnedValue) (steps mid after : List Step)
-    (xs ys : List (SentItem Item)) → TookMore taken k steps xs between m mid → TookMore between m mid ys now new after →
-    TookMore taken k steps (xs ++ ys) now new after
-took_then taken between now k m new steps mid after xs ys (e, a) (f, b) = (
+pub took_then : {R : Type 0} (g : Ghosts R) (taken between now : List (SentItem Item)) (k m new : R)
+    (steps mid after : List ItemStep) (xs ys : List (SentItem Item)) → TookMore g taken k steps xs between m mid →
+    TookMore g between m mid ys now new after → TookMore g taken k steps (xs ++ ys) now new after
+took_then g taken between now k m new steps mid after xs ys (e, a) (f, b) = (
   f ∙ ap (λ w. w ++ ys) e ∙ append_assoc taken xs ys,
-  subst (λ items. DidMore k steps items new after) (sym (items_then xs ys))
-      (did_then k m new steps mid after (items_in xs) (items_in ys) a b),
+  subst (λ items. MetMore g k steps items new after) (sym (items_then xs ys))
+      (met_then g k m new steps mid after (items_in xs) (items_in ys) a b),
 )
+
+-- what items made of a node, and of its steps
+pub did_of_met : (k new : OwnedValue) (steps after : List ItemStep) (items : List Item) →
+    MetMore node_replica k steps items new after → DidMore k steps items new after
+did_of_met k new steps after items (packets, answers, e, f, met) =
+    let d = node_items k new items packets answers met in (packets, answers, e, f, d.0, d.1)
 
 pub notes_more_none : (w : List SessionValue) (late : Option Item) → NotesMore [] w late w late
 notes_more_none w late = λ turn old h. subst (λ x. NotesItems x old w late) (sym (append-nil turn)) h

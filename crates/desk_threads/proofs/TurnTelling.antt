@@ -1,11 +1,15 @@
 -- Sessions in a turn: what items, answers and a stop make of them.
 use Rattle.std.proofs.Common.{◌≡◌, ◌++◌, List, [], ◌∷◌, refl, sym, ◌∙◌, ap, subst, append_assoc, append-nil}
-use Rattle.std.proofs.Common.{Option, None, option_to_list, is_some, true, false}
+use Rattle.std.proofs.Common.{◌⊎◌, inl, inr, ◌<◌, ℕ, ◌+◌, length, take, get_or, Option, None, Some, IfSome}
+use Rattle.std.proofs.Common.{option_to_list, is_some, true, false}
+use Rattle.std.proofs.lemmas.List.{take_more}
 use Rattle.std.specs.List.{AllZip, FoldsTo}
 use Rattle.desk_types.specs.declared.outcome.Outcome.{Outcome}
 use Rattle.desk_mailbox.specs.declared.item.Item.{Item}
 use Rattle.desk_mailbox.specs.declared.item.Item.TheVariants as items
-use Rattle.desk_threads.specs.Waiting.{SessionValue, after_item, HearsAll}
+use Rattle.desk_threads.specs.declared.answer.Answer.{Answer}
+use Rattle.desk_threads.specs.Answers.{session_answer, session_answers}
+use Rattle.desk_threads.specs.Waiting.{SessionValue, after_item, Hears, HearsAll, TakesMemory}
 use Rattle.desk_threads.specs.Telling.{after_items, late_of, NotesItems}
 
 after_then : (xs ys : List Item) (s : List SessionValue) → after_items (xs ++ ys) s ≡ after_items ys (after_items xs s)
@@ -66,8 +70,63 @@ zips_same R (x ∷ xs) f = (f x, zips_same R xs f)
 pub hears_none : (s : List SessionValue) → AllZip (HearsAll []) s s
 hears_none s = zips_same (HearsAll []) s (λ x. refl)
 
-pub hears_then : (xs ys : List Outcome) (old mid new : List SessionValue) → AllZip (HearsAll xs) old mid →
+pub hears_then : (xs ys : List Answer) (old mid new : List SessionValue) → AllZip (HearsAll xs) old mid →
     AllZip (HearsAll ys) mid new → AllZip (HearsAll (xs ++ ys)) old new
 hears_then xs ys old mid new =
     zips_then (HearsAll xs) (HearsAll ys) (HearsAll (xs ++ ys)) old mid new
     (λ x y z. folds_then _ x y z xs ys)
+
+zips_each : {A : Type 0} (P Q : A → A → Type 0) (xs ys : List A) → ((x y : A) → P x y → Q x y) → AllZip P xs ys →
+    AllZip Q xs ys
+zips_each P Q [] [] f h = tt
+zips_each P Q [] (y ∷ ys) f h = absurd h
+zips_each P Q (x ∷ xs) [] f h = absurd h
+zips_each P Q (x ∷ xs) (y ∷ ys) f (p, h) = (f x y p, zips_each P Q xs ys f h)
+
+pub hears_one : (answer : Answer) (old new : List SessionValue) → AllZip (Hears answer) old new →
+    AllZip (HearsAll (answer ∷ [])) old new
+hears_one answer old new h = zips_each (Hears answer) (HearsAll (answer ∷ [])) old new (λ x y p. (y, p, refl)) h
+
+answers_more : (xs : List Outcome) (x : Outcome) →
+    session_answers (xs ++ x ∷ []) ≡ session_answers xs ++ option_to_list (session_answer x)
+answers_more [] x = append-nil (option_to_list (session_answer x))
+answers_more (y ∷ xs) x =
+    ap (λ w. option_to_list (session_answer y) ++ w) (answers_more xs x)
+    ∙ sym (append_assoc (option_to_list (session_answer y)) (session_answers xs) (option_to_list (session_answer x)))
+
+-- one outcome more was heard
+pub hears_more : (xs : List Outcome) (x : Outcome) (old mid new : List SessionValue) →
+    AllZip (HearsAll (session_answers xs)) old mid → AllZip (HearsAll (option_to_list (session_answer x))) mid new →
+    AllZip (HearsAll (session_answers (xs ++ x ∷ []))) old new
+hears_more xs x old mid new one more =
+    subst (λ w. AllZip (HearsAll w) old new) (sym (answers_more xs x))
+    (hears_then (session_answers xs) (option_to_list (session_answer x)) old mid new one more)
+
+-- and so of outcomes, one by one
+pub hears_next : (xs : List Outcome) (i : ℕ) (x : Outcome) (old mid new : List SessionValue) → i < length xs →
+    x ≡ get_or xs i x → AllZip (HearsAll (session_answers (take i xs))) old mid →
+    AllZip (HearsAll (option_to_list (session_answer x))) mid new →
+    AllZip (HearsAll (session_answers (take (i + 1) xs))) old new
+hears_next xs i x old mid new lt is one more =
+    subst (λ l. AllZip (HearsAll (session_answers l)) old new)
+    (ap (λ z. take i xs ++ z ∷ []) is ∙ sym (take_more xs i x lt))
+    (hears_more (take i xs) x old mid new one more)
+
+-- the answer of an outcome was heard
+pub hears_told : (o r : Option Answer) (answer : Answer) (old new : List SessionValue) →
+    (r ≡ o) ⊎ ((r ≡ None) × IfSome o TakesMemory) → r ≡ Some answer → AllZip (Hears answer) old new →
+    AllZip (HearsAll (option_to_list o)) old new
+hears_told o r answer old new (inl same) is h =
+    subst (λ w. AllZip (HearsAll (option_to_list w)) old new) (sym is ∙ same) (hears_one answer old new h)
+hears_told o r answer old new (inr (none, takes)) is h = absurd (let no : ⊥ = cc in no)
+
+unheard : (o : Option Answer) (s : List SessionValue) → IfSome o TakesMemory → AllZip (HearsAll (option_to_list o)) s s
+unheard None s takes = hears_none s
+unheard (Some answer) s takes = zips_same (HearsAll (answer ∷ [])) s (λ x. (x, inr (takes, refl), refl))
+
+-- there was none to hear, or no memory for it
+pub hears_nothing : (o r : Option Answer) (s : List SessionValue) →
+    (r ≡ o) ⊎ ((r ≡ None) × IfSome o TakesMemory) → r ≡ None → AllZip (HearsAll (option_to_list o)) s s
+hears_nothing o r s (inl same) is =
+    subst (λ w. AllZip (HearsAll (option_to_list w)) s s) (sym is ∙ same) (hears_none s)
+hears_nothing o r s (inr (none, takes)) is = unheard o s takes

@@ -9,6 +9,8 @@ use Rattle.desk_mailbox.specs.declared.item.Item.TheVariants as items
 use Rattle.desk_node.specs.declared.event.Event.TheVariants as events
 use Rattle.desk_node.specs.Heard.{Says}
 use Rattle.desk_node.specs.Rules.{node_step}
+use Rattle.desk_threads.specs.declared.answer.Answer.{Answer}
+use Rattle.desk_threads.specs.Answers.{session_answers}
 use Rattle.desk_threads.specs.Keeper.{KeeperState, suspects, tick_event}
 use Rattle.desk_threads.specs.OwnedValue.{OwnedValue, state_of}
 use Rattle.desk_threads.specs.Waiting.{SessionValue, after_stop, HearsAll, Tells}
@@ -27,6 +29,11 @@ Answers old item answers =
     (received : List Message) → Says old.node.n old.node.saved.view received old.node.heard →
     answers ≡ item_answers old.node.domain old.node.id old.node.n (state_of old received) item
 
+-- These are the node's answers at the item, as the sessions hear them.
+abbrev pub AnswersSessions : OwnedValue → Item → List Answer → Type 0
+AnswersSessions old item answers =
+    (outcomes : List Outcome) × Answers old item outcomes × (answers ≡ session_answers outcomes)
+
 -- the sessions, which wait on where the keeper goes on, and else are to be told that it stops
 abbrev pub waiting_on : Bool → List SessionValue → List SessionValue
 waiting_on goes_on list = if goes_on then list else map after_stop list
@@ -36,6 +43,6 @@ abbrev pub AreInformed : List Entry → List SessionValue → List SessionValue 
 AreInformed list old new = AllZip (Tells list) old new
 
 -- The sessions heard these answers, and were then told what can be told of these published entries.
-abbrev pub HearAndAreInformed : List Entry → List Outcome → List SessionValue → List SessionValue → Type 0
+abbrev pub HearAndAreInformed : List Entry → List Answer → List SessionValue → List SessionValue → Type 0
 HearAndAreInformed list answers old new =
     (mid : List SessionValue) × AllZip (HearsAll answers) old mid × AreInformed list mid new

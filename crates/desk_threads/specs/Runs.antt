@@ -3,7 +3,6 @@ use Rattle.std.specs.Prelude.{◌≡◌, ◌≢◌, ◌<◌, ◌≤◌, ◌⊎�
 use Rattle.std.specs.Prelude.{MatchBool}
 use mathlib.Core.List.{IsPrefix}
 use Rattle.desk_types.specs.declared.command.Entry.{Entry}
-use Rattle.desk_types.specs.declared.outcome.Outcome.{Outcome}
 use Rattle.desk_types.specs.declared.packet.Message.{Message}
 use Rattle.desk_types.specs.declared.refusal.Refusal.{Refusal}
 use Rattle.desk_types.specs.declared.refusal.Refusal.TheVariants as refusals
@@ -12,6 +11,7 @@ use Rattle.desk_mailbox.specs.declared.item.Item.{Item}
 use Rattle.desk_mailbox.specs.declared.item.Item.TheVariants as items
 use Rattle.desk_mailbox.specs.declared.rule.SentItem.{SentItem}
 use Rattle.desk_log.specs.declared.state_store.StateStore.{Ghosts as StoreGhosts}
+use Rattle.desk_threads.specs.declared.answer.Answer.{Answer}
 use Rattle.desk_threads.specs.declared.handing.Out.{Ghosts}
 use Rattle.desk_threads.specs.OwnedValue.{OwnedValue, DoesItems}
 use Rattle.desk_threads.specs.Waiting.{SessionValue}
@@ -80,7 +80,7 @@ pub record TakesTurn {O S : Type 0} (g : Ghosts O) (s : StoreGhosts S) (most : �
   pub shown : IsPrefix new.published (committed_entries new.owned.node.saved)
   pub whole : MatchBool new.all_published (new.published ≡ committed_entries new.owned.node.saved)
       (new.published ≢ committed_entries new.owned.node.saved)
-  pub answers : List Outcome
+  pub answers : List Answer
   pub answered : AnswersItems old.owned turn answers new.owned
   pub reported : TellsOfTurn new.published turn answers old.waiting new.waiting
 

@@ -2,25 +2,25 @@
 use Rattle.std.specs.Prelude.{◌≡◌, ◌⊎◌, ◌++◌, ℕ, List, [], ◌∷◌, map, Option, Some, None, option_to_list}
 use Rattle.std.specs.List.{AllZip}
 use Rattle.desk_types.specs.declared.command.Entry.{Entry}
-use Rattle.desk_types.specs.declared.outcome.Outcome.{Outcome}
 use Rattle.desk_types.specs.declared.packet.Message.{Message}
 use Rattle.desk_mailbox.specs.declared.item.Item.{Item}
 use Rattle.desk_mailbox.specs.declared.item.Item.TheVariants as items
+use Rattle.desk_threads.specs.declared.answer.Answer.{Answer}
 use Rattle.desk_threads.specs.OwnedValue.{OwnedValue, DoesItem, with_one_refused}
-use Rattle.desk_threads.specs.ItemAnswers.{Answers}
+use Rattle.desk_threads.specs.ItemAnswers.{AnswersSessions}
 use Rattle.desk_threads.specs.Waiting.{SessionValue, after_item, after_stop, HearsAll, Tells}
 
 -- The item was done, and this is what the node answered; or it was refused, and there is no answer.
-abbrev pub AnswersItem : OwnedValue → Item → List Outcome → OwnedValue → Type 0
+abbrev pub AnswersItem : OwnedValue → Item → List Answer → OwnedValue → Type 0
 AnswersItem old item answers new =
-    ((packets : List (ℕ × Message)) × DoesItem old item packets new × Answers old item answers)
+    ((packets : List (ℕ × Message)) × DoesItem old item packets new × AnswersSessions old item answers)
     ⊎ ((answers ≡ []) × (new ≡ with_one_refused old))
 
 -- So it is with items one after the other, and these are all answers, in order.
-abbrev pub AnswersItems : OwnedValue → List Item → List Outcome → OwnedValue → Type 0
+abbrev pub AnswersItems : OwnedValue → List Item → List Answer → OwnedValue → Type 0
 AnswersItems old [] answers new = (answers ≡ []) × (new ≡ old)
 AnswersItems old (item ∷ more) answers new =
-    (mid : OwnedValue) × (first : List Outcome) × (rest : List Outcome) × (answers ≡ first ++ rest)
+    (mid : OwnedValue) × (first : List Answer) × (rest : List Answer) × (answers ≡ first ++ rest)
     × AnswersItem old item first mid × AnswersItems mid more rest new
 
 -- what items make of the sessions, one after the other
@@ -49,7 +49,7 @@ TellsRoundLate list late heard new =
 
 -- The sessions of a turn that was saved: they heard of its items, then these answers, and were told what can be told of
 -- these published entries; then so of the late item.
-abbrev pub TellsOfTurn : List Entry → List Item → List Outcome → List SessionValue → List SessionValue → Type 0
+abbrev pub TellsOfTurn : List Entry → List Item → List Answer → List SessionValue → List SessionValue → Type 0
 TellsOfTurn list turn answers old new =
     (noted : List SessionValue) × (late : Option Item) × (heard : List SessionValue)
     × NotesItems turn old noted late × AllZip (HearsAll answers) noted heard × TellsRoundLate list late heard new

@@ -6,17 +6,15 @@ use Rattle.std.specs.Option.{option_or}
 use Rattle.crossbeam_channel.specs.declared.err.TrySendError.{TrySendError}
 use Rattle.crossbeam_channel.specs.declared.err.TrySendError.TheVariants as sends
 use Rattle.desk_types.specs.declared.command.Entry.{Entry}
-use Rattle.desk_types.specs.declared.outcome.Outcome.{Outcome}
-use Rattle.desk_types.specs.declared.outcome.Outcome.TheVariants as outcomes
 use Rattle.desk_types.specs.declared.refusal.Refusal.{Refusal}
 use Rattle.desk_types.specs.declared.refusal.Refusal.TheVariants as refusals
-use Rattle.desk_types.specs.declared.reply.Reply.{Reply}
-use Rattle.desk_types.specs.declared.reply.Reply.TheVariants as replies
 use Rattle.desk_mailbox.specs.declared.item.Item.{Item}
 use Rattle.desk_mailbox.specs.declared.item.Item.TheVariants as items
 use Rattle.desk_published.specs.Reported.{is_request_at}
 use Rattle.desk_published.specs.declared.reported.ReportedWord.{ReportedWord}
 use Rattle.desk_published.specs.declared.reported.ReportedWord.TheVariants as words
+use Rattle.desk_threads.specs.declared.answer.Answer.{Answer}
+use Rattle.desk_threads.specs.declared.answer.Answer.TheVariants.{Committed, Refused}
 use Rattle.desk_threads.specs.declared.awaits.Awaited.{Awaited}
 use Rattle.desk_threads.specs.declared.awaits.Awaited.TheVariants as awaits
 use Rattle.desk_threads.specs.declared.limits.TheConstants.{WAITING_TICKS}
@@ -97,17 +95,10 @@ abbrev pub answered : ℕ → ℕ → Awaited → SessionValue → SessionValue
 answered client number next s =
     if is_commit s.awaits && is_asked client number s.asked then awaiting next s else s
 
--- the place of the entry that a reply answers
-abbrev pub place_of_reply : Reply → ℕ
-place_of_reply (replies.Done place word incident) = place
-place_of_reply (replies.Refused place refusal) = place
-
 -- what an answer makes of a session
-abbrev pub heard : Outcome → SessionValue → SessionValue
-heard (outcomes.Document refusal) s = s
-heard (outcomes.Command client number reply) s = answered client number (awaits.Publish (place_of_reply reply)) s
-heard (outcomes.Node client number refusal) s = answered client number (awaits.Refusal refusal) s
-heard (outcomes.Board client shown) s = s
+abbrev pub heard : Answer → SessionValue → SessionValue
+heard (Committed client number place) s = answered client number (awaits.Publish place) s
+heard (Refused client number refusal) s = answered client number (awaits.Refusal refusal) s
 
 -- It is one of the refusals that a node gives, whose copy takes no memory.
 abbrev pub is_of_node : Refusal → Bool
@@ -117,18 +108,16 @@ is_of_node refusals.BookFull = true
 is_of_node _ = false
 
 -- The answer is a refusal whose copy may take memory; no node gives such a one.
-abbrev pub TakesMemory : Outcome → Type 0
-TakesMemory (outcomes.Document refusal) = ⊥
-TakesMemory (outcomes.Command client number reply) = ⊥
-TakesMemory (outcomes.Node client number refusal) = is_of_node refusal ≡ false
-TakesMemory (outcomes.Board client shown) = ⊥
+abbrev pub TakesMemory : Answer → Type 0
+TakesMemory (Committed client number place) = ⊥
+TakesMemory (Refused client number refusal) = is_of_node refusal ≡ false
 
 -- The session heard the answer; or memory was refused for it, and the session waits on.
-abbrev pub Hears : Outcome → SessionValue → SessionValue → Type 0
+abbrev pub Hears : Answer → SessionValue → SessionValue → Type 0
 Hears answer old new = (new ≡ heard answer old) ⊎ (TakesMemory answer × (new ≡ old))
 
 -- The session heard the answers, one after the other.
-abbrev pub HearsAll : List Outcome → SessionValue → SessionValue → Type 0
+abbrev pub HearsAll : List Answer → SessionValue → SessionValue → Type 0
 HearsAll answers old new = FoldsTo (λ s answer t. Hears answer s t) old answers new
 
 -- what is told of a request, where these entries are published

@@ -2,9 +2,9 @@
 
 ghost use Rattle.std.specs.Prelude.{◌≡◌, false, MatchOption};
 ghost use Rattle.std.specs.Prelude.{if◌then◌else◌, Some, None};
-ghost use Rattle.desk_threads.specs.Waiting.{is_commit, is_waiting, is_of_node, place_of_reply};
+ghost use Rattle.desk_threads.specs.Waiting.{is_commit, is_waiting, is_of_node};
 
-use desk_types::{Refusal, Reply};
+use desk_types::Refusal;
 
 /// What a session waits for: one thing at a time.
 #[derive(Drop)]
@@ -40,16 +40,6 @@ impl Awaited {
             Awaited::Publish(_) => true,
             Awaited::Refusal(_) => false,
         }
-    }
-}
-
-/// The place of the entry that a reply answers.
-pub(crate) fn place_of(reply: &Reply) -> u64
-    ensures { result ≡ place_of_reply reply.now }
-{
-    match reply {
-        Reply::Done { place, .. } => *place,
-        Reply::Refused { place, .. } => *place,
     }
 }
 

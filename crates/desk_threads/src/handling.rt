@@ -6,6 +6,7 @@ ghost use Rattle.desk_types.specs.declared.refusal.Refusal.TheVariants as refusa
 ghost use Rattle.desk_log.specs.SavedValue.{committed_entries};
 ghost use Rattle.desk_node.specs.NodeValue.{IsSameNode};
 ghost use Rattle.desk_threads.specs.OwnedValue.{with_one_refused, DoesItem};
+ghost use Rattle.desk_threads.specs.Answers.{session_answers};
 ghost use Rattle.desk_threads.specs.ItemAnswers.{Answers, HearAndAreInformed, AreInformed, waiting_on};
 ghost use Rattle.desk_threads.specs.Waiting.{after_item};
 ghost use Rattle.desk_published.specs.Writer.{published};
@@ -16,6 +17,7 @@ ghost use Rattle.desk_threads.specs.Telling.{TellsOfStop};
 
 use crate::act::act_and_save;
 use crate::handing::{Out, hand_all};
+use crate::item_step::StepAnswers;
 use crate::keeper::Keeper;
 use crate::waiting::WaitingSessions;
 use desk_log::StateStore;
@@ -58,8 +60,8 @@ impl<B: BoardName, S: StateStore> Keeper<B, S> {
             × O.Out.takes out.old packets out.new) }
         // Who waits hears what the node answered, and is told what can be told of what is published then.
         ensures reported { IfOk result.1 (λ whole. (answers : List _) × Answers self.owned item answers
-            × HearAndAreInformed (published result.0.writer.inner) answers (after_item item self.waiting)
-            result.0.waiting) }
+            × HearAndAreInformed (published result.0.writer.inner) (session_answers answers)
+            (after_item item self.waiting) result.0.waiting) }
         // At 40 the node answered nothing, and they wait on.
         ensures reported_unanswered { IfErr result.1 (λ r. r ≡ refusals.WantOfMemory →
             AreInformed (published result.0.writer.inner) (after_item item self.waiting) result.0.waiting) }
@@ -108,7 +110,8 @@ impl<B: BoardName, S: StateStore> Keeper<B, S> {
         let answer = match outcome {
             Ok(Step { packets, answers }) => {
                 hand_all(out, packets);
-                waiting.hear(answers.as_slice());
+                let answers = StepAnswers::of_node(answers);
+                waiting.hear(&answers);
                 Ok(whole)
             }
             Err(refusal) => Err(refusal),
@@ -179,8 +182,8 @@ impl<B: BoardName, S: StateStore> Keeper<B, S> {
             × O.Out.takes out.old packets out.new) }
         // Who waits hears what the node answered, and is told what can be told of what is published then.
         ensures reported { IfOk result.1 (λ whole. (answers : List _) × Answers self.owned item answers
-            × HearAndAreInformed (published result.0.writer.inner) answers (after_item item self.waiting)
-            result.0.waiting) }
+            × HearAndAreInformed (published result.0.writer.inner) (session_answers answers)
+            (after_item item self.waiting) result.0.waiting) }
         // At 40 the node answered nothing, and they wait on.
         ensures reported_unanswered { IfErr result.1 (λ r. r ≡ refusals.WantOfMemory →
             AreInformed (published result.0.writer.inner) (after_item item self.waiting) result.0.waiting) }

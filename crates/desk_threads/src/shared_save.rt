@@ -5,7 +5,6 @@ ghost use Rattle.std.specs.Prelude.{◌≡◌, ◌<◌, ◌++◌, ◌∷◌, Lis
 ghost use Rattle.std.specs.Prelude.{option_to_list, IfOk, IfErr, OnOk, OnErr};
 ghost use Rattle.std.specs.List.{AllZip};
 ghost use mathlib.Core.List.{IsPrefix};
-ghost use Rattle.desk_log.specs.Entries.{IsLogPrefix};
 ghost use Rattle.desk_log.specs.SavedValue.{committed_entries};
 ghost use Rattle.desk_mailbox.specs.Ends.{taken_by, IsSameTaker};
 ghost use Rattle.desk_mailbox.specs.declared.item.Item.TheVariants as items;
@@ -13,13 +12,14 @@ ghost use Rattle.desk_types.specs.declared.refusal.Refusal.TheVariants as refusa
 ghost use Rattle.desk_published.specs.Writer.{EqualsPrefix, published};
 ghost use Rattle.desk_threads.specs.Waiting.{after_stop, HearsAll, Tells};
 ghost use Rattle.desk_threads.specs.EndingItems.{OnlyLastEnds};
-ghost use Rattle.desk_threads.specs.Filed.{IsFiled, IsUnfiled};
 ghost use Rattle.desk_threads.specs.Telling.{after_items, NotesItems, TellsOfStop, TellsRoundLate};
-ghost use Rattle.desk_threads.specs.Turns.{packets_of_steps, answers_of_steps, DidMore};
+ghost use Rattle.desk_threads.specs.Turns.{packets_of_steps, answers_of_steps, MetAndSaved};
 ghost use Rattle.desk_threads.specs.Runs.{items_in, stand, EndsInStop, TakesTurn, DoesUnsaved};
 
 use crate::handing::Out;
 use crate::keeper::Keeper;
+use crate::saved_node::SavedNode;
+use crate::saved_replica::SavedReplica;
 use crate::turn::{Turn, hand_steps};
 use crate::waiting::WaitingSessions;
 use desk_log::StateStore;
@@ -30,37 +30,30 @@ use std::alloc::Global;
 use std::sync::Wait;
 
 /// Does an item that was taken, and those that are there after it, so many in all at most, and saves what all of them
-/// made of the node.
-fn act_all_and_save<B: BoardName, S: StateStore, R: Wait>(
-    rt: &R,
+/// made.
+fn act_all_and_save<B: BoardName, R: SavedReplica, W: Wait>(
+    rt: &W,
     alloc: Global,
-    store: &mut S,
-    turn: Turn<B>,
+    turn: Turn<B, R>,
     item: Item,
     most: usize,
-) -> (Turn<B>, Result<(), Refusal>)
-    requires last { S.last store.old ≡ turn.owned.node.saved }
-    requires running { S.stopped store.old ≡ false }
+) -> (Turn<B, R>, Result<(), Refusal>)
+    requires saved { R.SavedReplica.is_saved turn.replica }
     requires positive { 0 < most }
     requires late { turn.late ≡ None }
     ensures taker { IsSameTaker turn.taker result.0.taker }
     ensures did { (sent : List _) × (length sent < most)
         × (taken_by result.0.taker ≡ taken_by turn.taker ++ sent)
-        × DidMore turn.owned turn.steps.items (item ∷ items_in sent) result.0.owned result.0.steps.items
+        × MetAndSaved R.Replica R.SavedReplica.saves R.SavedReplica.fails turn.replica turn.steps.items
+        (item ∷ items_in sent) result.1 result.0.replica result.0.steps.items
         × NotesItems (item ∷ items_in sent) turn.waiting result.0.waiting result.0.late
         × OnlyLastEnds (item ∷ items_in sent) }
-    ensures committed { IsLogPrefix (committed_entries turn.owned.node.saved)
-        (committed_entries result.0.owned.node.saved) }
-    ensures filed { OnOk result.1 (IsFiled S.StateStore store.old store.new result.0.owned.node.saved) }
-    ensures left { OnErr result.1 (IsUnfiled S.StateStore store.old store.new turn.owned.node.saved
-        result.0.owned.node.saved) }
     ensures fault { IfErr result.1 (λ r. r ≡ refusals.StoreFault) }
 {
-    let before = turn.owned.node().saved().commit();
+    let known = turn.replica.committed().len() as u64;
     let turn = turn.add(alloc, item);
     let turn = turn.fill(rt, alloc, most);
-    let outcome = store.save_state(turn.owned.node().saved(), before);
-    (turn, outcome)
+    turn.save(known)
 }
 
 // Whether the last item of a turn is a stop.
@@ -84,18 +77,17 @@ fn note_late<B: BoardName>(waiting: &mut WaitingSessions<B>, late: &Option<Item>
 fn end_saved<B: BoardName, S: StateStore, R: Wait, O: Out>(
     rt: &R,
     alloc: Global,
-    store: S,
     writer: BoardWriter<B>,
-    turn: Turn<B>,
+    turn: Turn<B, SavedNode<S>>,
     out: &mut O,
 ) -> Keeper<B, S>
-    requires last { S.last store ≡ turn.owned.node.saved }
-    requires running { S.stopped store ≡ false }
-    requires noted { EqualsPrefix writer.noted (committed_entries turn.owned.node.saved) }
-    requires domain { turn.owned.node.domain ≡ B.domain }
+    requires last { S.last turn.replica.store ≡ turn.replica.owned.node.saved }
+    requires running { S.stopped turn.replica.store ≡ false }
+    requires noted { EqualsPrefix writer.noted (committed_entries turn.replica.owned.node.saved) }
+    requires domain { turn.replica.owned.node.domain ≡ B.domain }
     ensures taker { result.taker ≡ turn.taker }
-    ensures owned { result.owned ≡ turn.owned }
-    ensures store { result.store ≡ store }
+    ensures owned { result.owned ≡ turn.replica.owned }
+    ensures store { result.store ≡ turn.replica.store }
     ensures stopped { result.stopped ≡ false }
     ensures gave { O.Out.takes out.old (packets_of_steps turn.steps.items) out.new }
     ensures grows { IsPrefix (published writer.inner) (published result.writer.inner) }
@@ -104,12 +96,13 @@ fn end_saved<B: BoardName, S: StateStore, R: Wait, O: Out>(
 {
     let Turn {
         taker,
-        owned,
+        replica,
         mut waiting,
         steps,
         late,
         is_over: _,
     } = turn;
+    let SavedNode { owned, store } = replica;
     let (writer, all_published) = writer.publish(rt, owned.node().saved(), true);
     hand_steps(out, &mut waiting, steps);
     // who is answered in this turn is told so before a tick or a stop can end the wait
@@ -133,16 +126,15 @@ fn end_saved<B: BoardName, S: StateStore, R: Wait, O: Out>(
 fn end_unsaved<B: BoardName, S: StateStore, R: Wait>(
     rt: &R,
     alloc: Global,
-    store: S,
     writer: BoardWriter<B>,
-    turn: Turn<B>,
+    turn: Turn<B, SavedNode<S>>,
 ) -> Keeper<B, S>
-    requires noted { EqualsPrefix writer.noted (committed_entries turn.owned.node.saved) }
-    requires shown { EqualsPrefix (published writer.inner) (committed_entries turn.owned.node.saved) }
-    requires domain { turn.owned.node.domain ≡ B.domain }
+    requires noted { EqualsPrefix writer.noted (committed_entries turn.replica.owned.node.saved) }
+    requires shown { EqualsPrefix (published writer.inner) (committed_entries turn.replica.owned.node.saved) }
+    requires domain { turn.replica.owned.node.domain ≡ B.domain }
     ensures taker { result.taker ≡ turn.taker }
-    ensures owned { result.owned ≡ turn.owned }
-    ensures store { result.store ≡ store }
+    ensures owned { result.owned ≡ turn.replica.owned }
+    ensures store { result.store ≡ turn.replica.store }
     ensures stopped { result.stopped ≡ true }
     ensures writer { result.writer ≡ writer }
     ensures reported { AllZip (Tells (published writer.inner))
@@ -150,12 +142,13 @@ fn end_unsaved<B: BoardName, S: StateStore, R: Wait>(
 {
     let Turn {
         taker,
-        owned,
+        replica,
         mut waiting,
         steps,
         late,
         is_over: _,
     } = turn;
+    let SavedNode { owned, store } = replica;
     drop(steps);
     note_late(&mut waiting, &late);
     drop(late);
@@ -212,23 +205,23 @@ impl<B: BoardName, S: StateStore> Keeper<B, S> {
         let Keeper {
             taker,
             owned,
-            mut store,
+            store,
             writer,
             waiting,
             stopped: _,
             all_published: _,
             alloc,
         } = self;
-        let turn = Turn::new(alloc, taker, owned, waiting);
-        let (turn, outcome) = act_all_and_save(rt, alloc, &mut store, turn, item, most);
+        let turn = Turn::new(alloc, taker, SavedNode { owned, store }, waiting);
+        let (turn, outcome) = act_all_and_save(rt, alloc, turn, item, most);
         match outcome {
             Ok(()) => {
                 let goes_on = !is_stop(&turn.late);
-                let keeper = end_saved(rt, alloc, store, writer, turn, out);
+                let keeper = end_saved(rt, alloc, writer, turn, out);
                 (keeper, Ok(goes_on))
             }
             Err(refusal) => {
-                let keeper = end_unsaved(rt, alloc, store, writer, turn);
+                let keeper = end_unsaved(rt, alloc, writer, turn);
                 (keeper, Err(refusal))
             }
         }

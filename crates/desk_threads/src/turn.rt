@@ -1,24 +1,23 @@
 //! Items that are done one after the other in memory, before the save that they share.
 
-ghost use Rattle.std.specs.Prelude.{◌≡◌, ◌≤◌, ◌<◌, ◌∷◌, [], List, length, None, false};
+ghost use Rattle.std.specs.Prelude.{◌≡◌, ◌≤◌, ◌<◌, ◌∷◌, [], List, length, None, false, IfErr};
 ghost use Rattle.std.specs.List.{AllZip};
-ghost use Rattle.desk_log.specs.Entries.{IsLogPrefix};
-ghost use Rattle.desk_log.specs.SavedValue.{committed_entries};
 ghost use Rattle.desk_mailbox.specs.Ends.{taken_by, IsSameTaker};
-ghost use Rattle.desk_threads.specs.OwnedValue.{with_one_refused};
 ghost use Rattle.desk_threads.specs.Waiting.{HearsAll};
 ghost use Rattle.desk_threads.specs.EndingItems.{may_carry_log, ends_turn};
 ghost use Rattle.desk_threads.specs.Telling.{late_of, NotesItems};
-ghost use Rattle.desk_threads.specs.Turns.{packets_of_steps, answers_of_steps, DidMore, TookMore, NotesMore};
-ghost use Rattle.desk_threads.specs.Turns.{AddsToTurn};
+ghost use Rattle.desk_threads.specs.Turns.{packets_of_steps, answers_of_steps, MetMore, TookMore, NotesMore};
+ghost use Rattle.desk_threads.specs.Turns.{AddsToTurn, EndsInSave};
+ghost use Rattle.desk_types.specs.declared.refusal.Refusal.TheVariants as refusals;
 
 use crate::handing::{Out, hand_all};
-use crate::owned_node::OwnedNode;
+use crate::item_step::ItemStep;
+use crate::replica::Replica;
+use crate::saved_replica::SavedReplica;
 use crate::waiting::WaitingSessions;
 use desk_mailbox::{Item, Taker};
-use desk_node::Step;
 use desk_published::BoardName;
-use desk_types::Message;
+use desk_types::{Message, Refusal};
 use std::alloc::Global;
 use std::sync::Wait;
 
@@ -26,12 +25,12 @@ use std::sync::Wait;
 pub const TURN_ITEMS: usize = 64;
 
 /// Items that were taken and done, and are not saved yet.
-pub(crate) struct Turn<B: BoardName> {
+pub(crate) struct Turn<B: BoardName, R: Replica> {
     pub(crate) taker: Taker<Item>,
-    pub(crate) owned: OwnedNode,
+    pub(crate) replica: R,
     pub(crate) waiting: WaitingSessions<B>,
     /// What they made, in order.
-    pub(crate) steps: Vec<Step>,
+    pub(crate) steps: Vec<ItemStep>,
     /// A tick or a stop, which is the last of them. The sessions that wait are told of it after all others.
     pub(crate) late: Option<Item>,
     /// Whether it takes no more items.
@@ -81,24 +80,25 @@ fn ends_turn(item: &Item) -> bool
 }
 
 /// Refuses an item for whose step there is no room: it is not done, and it is counted.
-fn refuse_item(owned: &mut OwnedNode, item: Item)
-    ensures { owned.new ≡ with_one_refused owned.old }
+fn refuse_item<R: Replica>(replica: &mut R, item: Item)
+    ensures refused { R.refuses replica.old replica.new }
+    ensures follows { R.follows replica.old replica.new }
 {
     drop(item);
-    owned.refuse();
+    replica.count_refused();
 }
 
 /// Does an item, and puts what it made after the steps before. Where there is no room for that it is refused, as for
 /// any want of memory, and is not done.
-fn act_later(alloc: Global, owned: &mut OwnedNode, steps: &mut Vec<Step>, item: Item)
-    ensures did { DidMore owned.old steps.old.items (item ∷ []) owned.new steps.new.items }
-    ensures committed { IsLogPrefix (committed_entries owned.old.node.saved) (committed_entries owned.new.node.saved) }
+fn act_later<R: Replica>(alloc: Global, replica: &mut R, steps: &mut Vec<ItemStep>, item: Item)
+    ensures did { MetMore R.Replica replica.old steps.old.items (item ∷ []) replica.new steps.new.items }
+    ensures follows { R.follows replica.old replica.new }
 {
     if steps.reserve(1).is_err() {
-        refuse_item(owned, item);
+        refuse_item(replica, item);
         return;
     }
-    match owned.act(alloc, item) {
+    match replica.do_item(alloc, item) {
         Ok(step) => steps.push_reserved(step),
         Err(_) => {}
     }
@@ -108,34 +108,34 @@ fn act_later(alloc: Global, owned: &mut OwnedNode, steps: &mut Vec<Step>, item: 
 pub(crate) fn hand_steps<B: BoardName, O: Out>(
     out: &mut O,
     waiting: &mut WaitingSessions<B>,
-    steps: Vec<Step>,
+    steps: Vec<ItemStep>,
 )
     ensures gave { O.Out.takes out.old (packets_of_steps steps.items) out.new }
     ensures heard { AllZip (HearsAll (answers_of_steps steps.items)) waiting.old waiting.new }
 {
-    for Step { packets, answers } in steps {
+    for ItemStep { packets, answers } in steps {
         hand_all(out, packets);
-        waiting.hear(answers.as_slice());
+        waiting.hear(&answers);
     }
 }
 
-impl<B: BoardName> Turn<B> {
+impl<B: BoardName, R: Replica> Turn<B, R> {
     /// No items yet. It takes no memory.
     pub(crate) fn new(
         alloc: Global,
         taker: Taker<Item>,
-        owned: OwnedNode,
+        replica: R,
         waiting: WaitingSessions<B>,
-    ) -> Turn<B>
+    ) -> Turn<B, R>
         ensures taker { result.taker ≡ taker }
-        ensures owned { result.owned ≡ owned }
+        ensures replica { result.replica ≡ replica }
         ensures waiting { result.waiting ≡ waiting }
         ensures steps { result.steps.items ≡ [] }
         ensures late { result.late ≡ None }
     {
         Turn {
             taker,
-            owned,
+            replica,
             waiting,
             steps: Vec::new(alloc),
             late: None,
@@ -144,18 +144,17 @@ impl<B: BoardName> Turn<B> {
     }
 
     /// Does an item that was taken.
-    pub(crate) fn add(self, alloc: Global, item: Item) -> Turn<B>
+    pub(crate) fn add(self, alloc: Global, item: Item) -> Turn<B, R>
         requires { self.late ≡ None }
         ensures taker { result.taker ≡ self.taker }
-        ensures did { DidMore self.owned self.steps.items (item ∷ []) result.owned result.steps.items }
+        ensures did { MetMore R.Replica self.replica self.steps.items (item ∷ []) result.replica result.steps.items }
         ensures noted { NotesItems (item ∷ []) self.waiting result.waiting result.late }
         ensures over { result.is_over ≡ ends_turn item }
-        ensures committed { IsLogPrefix (committed_entries self.owned.node.saved)
-            (committed_entries result.owned.node.saved) }
+        ensures follows { R.follows self.replica result.replica }
     {
         let Turn {
             taker,
-            mut owned,
+            mut replica,
             mut waiting,
             mut steps,
             late: _,
@@ -166,10 +165,10 @@ impl<B: BoardName> Turn<B> {
         if late.is_none() {
             waiting.note(&item);
         }
-        act_later(alloc, &mut owned, &mut steps, item);
+        act_later(alloc, &mut replica, &mut steps, item);
         Turn {
             taker,
-            owned,
+            replica,
             waiting,
             steps,
             late,
@@ -178,21 +177,20 @@ impl<B: BoardName> Turn<B> {
     }
 
     // Takes an item that is there, where the turn takes more, and does it. False where none was taken.
-    fn add_next<R: Wait>(self, rt: &R, alloc: Global) -> (Turn<B>, bool)
+    fn add_next<W: Wait>(self, rt: &W, alloc: Global) -> (Turn<B, R>, bool)
         ensures taker { IsSameTaker self.taker result.0.taker }
-        ensures did { (sent : List _) × (length sent ≤ 1) × TookMore (taken_by self.taker) self.owned
-            self.steps.items sent (taken_by result.0.taker) result.0.owned result.0.steps.items
+        ensures did { (sent : List _) × (length sent ≤ 1) × TookMore R.Replica (taken_by self.taker) self.replica
+            self.steps.items sent (taken_by result.0.taker) result.0.replica result.0.steps.items
             × NotesMore sent self.waiting self.late result.0.waiting result.0.late
             × AddsToTurn sent self.is_over result.0.is_over }
-        ensures committed { IsLogPrefix (committed_entries self.owned.node.saved)
-            (committed_entries result.0.owned.node.saved) }
+        ensures follows { R.follows self.replica result.0.replica }
     {
         if self.is_over {
             return (self, false);
         }
         let Turn {
             taker,
-            owned,
+            replica,
             waiting,
             steps,
             late,
@@ -201,7 +199,7 @@ impl<B: BoardName> Turn<B> {
         let (taker, sent) = taker.try_take(rt);
         let turn = Turn {
             taker,
-            owned,
+            replica,
             waiting,
             steps,
             late,
@@ -215,15 +213,14 @@ impl<B: BoardName> Turn<B> {
 
     /// Takes and does items as long as some are there and the turn takes more; with the one that it has they are so
     /// many at most.
-    pub(crate) fn fill<R: Wait>(self, rt: &R, alloc: Global, most: usize) -> Turn<B>
+    pub(crate) fn fill<W: Wait>(self, rt: &W, alloc: Global, most: usize) -> Turn<B, R>
         requires positive { 0 < most }
         ensures taker { IsSameTaker self.taker result.taker }
-        ensures did { (sent : List _) × (length sent < most) × TookMore (taken_by self.taker) self.owned
-            self.steps.items sent (taken_by result.taker) result.owned result.steps.items
+        ensures did { (sent : List _) × (length sent < most) × TookMore R.Replica (taken_by self.taker) self.replica
+            self.steps.items sent (taken_by result.taker) result.replica result.steps.items
             × NotesMore sent self.waiting self.late result.waiting result.late
             × AddsToTurn sent self.is_over result.is_over }
-        ensures committed { IsLogPrefix (committed_entries self.owned.node.saved)
-            (committed_entries result.owned.node.saved) }
+        ensures follows { R.follows self.replica result.replica }
     {
         let mut turn = self;
         for added in 1..most {
@@ -234,5 +231,39 @@ impl<B: BoardName> Turn<B> {
             }
         }
         turn
+    }
+}
+
+impl<B: BoardName, R: SavedReplica> Turn<B, R> {
+    /// Saves what the items made, where the caller knows how much was committed when it was saved last.
+    pub(crate) fn save(self, known: u64) -> (Turn<B, R>, Result<(), Refusal>)
+        requires { (before : R) × R.SavedReplica.is_saved before × R.Replica.follows before self.replica
+            × (known ≡ length (R.SavedReplica.cut before)) }
+        ensures taker { result.0.taker ≡ self.taker }
+        ensures waiting { result.0.waiting ≡ self.waiting }
+        ensures steps { result.0.steps.items ≡ self.steps.items }
+        ensures late { result.0.late ≡ self.late }
+        ensures saved { EndsInSave R.SavedReplica.saves R.SavedReplica.fails self.replica result.1
+            result.0.replica }
+        ensures fault { IfErr result.1 (λ r. r ≡ refusals.StoreFault) }
+    {
+        let Turn {
+            taker,
+            mut replica,
+            waiting,
+            steps,
+            late,
+            is_over,
+        } = self;
+        let outcome = replica.save(known);
+        let turn = Turn {
+            taker,
+            replica,
+            waiting,
+            steps,
+            late,
+            is_over,
+        };
+        (turn, outcome)
     }
 }

@@ -1,10 +1,13 @@
 //! The sessions that wait for an answer. Each waits for one at a time, so a word for each is enough.
 
-ghost use Rattle.std.specs.Prelude.{◌≡◌, ◌++◌, ◌∷◌, [], map, MatchResult};
+ghost use Rattle.std.specs.Prelude.{◌≡◌, ◌++◌, ◌∷◌, [], map, option_to_list, MatchResult};
 ghost use Rattle.std.specs.List.{AllZip};
 ghost use Rattle.desk_published.specs.Writer.{published};
-ghost use Rattle.desk_threads.specs.Waiting.{idle, after_tick, after_stop, after_item, HearsAll, Tells};
+ghost use Rattle.desk_threads.specs.Answers.{session_answer, session_answers};
+ghost use Rattle.desk_threads.specs.Waiting.{idle, after_tick, after_stop, after_item, Hears, HearsAll, Tells};
 
+use crate::answer::{Answer, session_answer};
+use crate::item_step::StepAnswers;
 use crate::waiting_session::WaitingSession;
 use crossbeam_channel::Sender;
 use desk_mailbox::Item;
@@ -52,11 +55,28 @@ fn stop_all<B: BoardName>(sessions: &mut Vec<WaitingSession<B>>)
     }
 }
 
-fn each_hears<B: BoardName>(sessions: &mut Vec<WaitingSession<B>>, answers: &[Outcome])
-    ensures { AllZip (HearsAll answers.now) sessions.old.items sessions.new.items }
+fn each_hears<B: BoardName>(sessions: &mut Vec<WaitingSession<B>>, answer: &Answer)
+    ensures { AllZip (Hears answer.now) sessions.old.items sessions.new.items }
 {
     for session in sessions.iter_mut() {
-        session.hear_all(answers);
+        session.hear(answer);
+    }
+}
+
+fn each_hears_outcome<B: BoardName>(sessions: &mut Vec<WaitingSession<B>>, outcome: &Outcome)
+    ensures { AllZip (HearsAll (option_to_list (session_answer outcome.now))) sessions.old.items sessions.new.items }
+{
+    match session_answer(outcome) {
+        Some(answer) => each_hears(sessions, &answer),
+        None => {}
+    }
+}
+
+fn each_hears_all<B: BoardName>(sessions: &mut Vec<WaitingSession<B>>, outcomes: &[Outcome])
+    ensures { AllZip (HearsAll (session_answers outcomes.now)) sessions.old.items sessions.new.items }
+{
+    for outcome in outcomes {
+        each_hears_outcome(sessions, outcome);
     }
 }
 
@@ -111,10 +131,10 @@ impl<B: BoardName> WaitingSessions<B> {
 
     /// The node has answered. A session that waits for the commit of an answered request waits from now on for its
     /// publish, or is to get its refusal.
-    pub fn hear(&mut self, answers: &[Outcome])
+    pub fn hear(&mut self, answers: &StepAnswers)
         ensures { AllZip (HearsAll answers.now) self.old self.new }
     {
-        each_hears(&mut self.sessions, answers);
+        each_hears_all(&mut self.sessions, answers.outcomes.as_slice());
     }
 
     /// The node has stopped: all that wait are refused by 34.

@@ -6,14 +6,15 @@ ghost use Rattle.desk_threads.specs.declared.awaits.Awaited.TheVariants as await
 ghost use Rattle.desk_threads.specs.declared.limits.TheConstants.{WAITING_TICKS};
 ghost use Rattle.desk_threads.specs.Keeper.{one_more};
 ghost use Rattle.desk_threads.specs.Waiting.{idle, asking, awaiting, given_up, after_tick, after_stop, is_asked};
-ghost use Rattle.desk_threads.specs.Waiting.{answered, is_of_node, Hears, HearsAll, said, word_on, word_asked};
+ghost use Rattle.desk_threads.specs.Waiting.{answered, is_of_node, Hears, said, word_on, word_asked};
 ghost use Rattle.desk_threads.specs.Waiting.{word_to_tell, after_word, with_unsent, after_send, Tells};
 
-use crate::awaits::{Awaited, copy_refusal, place_of};
+use crate::answer::Answer;
+use crate::awaits::{Awaited, copy_refusal};
 use crate::limits::WAITING_TICKS;
 use crossbeam_channel::{Sender, TrySendError};
 use desk_published::{BoardName, BoardWriter, Reported};
-use desk_types::{ClientId, Outcome, Refusal, RequestNumber};
+use desk_types::{ClientId, Refusal, RequestNumber};
 use std::marker::Model;
 use std::sync::Wait;
 
@@ -178,32 +179,21 @@ impl<B: BoardName> WaitingSession<B> {
         }
     }
 
-    // An answer to another request than the last one changes nothing.
-    fn hear(&mut self, answer: &Outcome)
+    /// Hears an answer. One to another request than the last one changes nothing.
+    pub(crate) fn hear(&mut self, answer: &Answer)
         ensures { Hears answer.now self.old self.new }
     {
         match answer {
-            Outcome::Document(_) => {}
-            Outcome::Command {
+            Answer::Committed {
                 client,
                 number,
-                reply,
-            } => self.hear_reply(*client, *number, place_of(reply)),
-            Outcome::Node {
+                place,
+            } => self.hear_reply(*client, *number, *place),
+            Answer::Refused {
                 client,
                 number,
                 refusal,
             } => self.hear_refusal(*client, *number, refusal),
-            Outcome::Board { .. } => {}
-        }
-    }
-
-    /// Hears answers, one after the other.
-    pub(crate) fn hear_all(&mut self, answers: &[Outcome])
-        ensures { HearsAll answers.now self.old self.new }
-    {
-        for answer in answers {
-            self.hear(answer);
         }
     }
 

@@ -1,6 +1,4 @@
-use Rattle.std.proofs.Common.{refl, subst}
-use Rattle.std.specs.List.{AllZip}
-use Rattle.desk_threads.specs.Waiting.{HearsAll}
+use Rattle.std.proofs.Common.{refl}
 use Rattle.desk_threads.proofs.TurnSteps.{gave_push, heard_push}
 use Rattle.desk_threads.proofs.TurnTelling.{hears_none}
 use Rattle.desk_threads.proofs.turn.hand_steps.Goals as goal
@@ -14,6 +12,5 @@ loop-packets-preserved g c = (
       c.loop-packets.yielded c.in-Some.field-0 c.in-Some.field-0.packets.items refl c.loop-packets.invariant.0
       c.hand_all.ensures,
   heard_push c.loop-packets.yielded c.in-Some.field-0 c.args.waiting.now c.loop-packets.waiting c.hear.new.self
-      c.loop-packets.invariant.1
-      (subst (λ w. AllZip (HearsAll w) c.loop-packets.waiting c.hear.new.self) c.as_slice.ensures.value c.hear.ensures),
+      c.loop-packets.invariant.1 c.hear.ensures,
 )

@@ -1,18 +1,13 @@
-use Rattle.std.proofs.Common.{[], append-nil}
-use Rattle.desk_published.specs.Writer.{published}
-use Rattle.desk_published.proofs.PrefixEquations.{is_prefix, prefix_trans, prefix_more}
+use Rattle.std.proofs.Common.{◌≡◌, ◌∙◌, ap, subst, take, List}
+use Rattle.desk_types.specs.declared.command.Entry.{Entry}
+use Rattle.desk_log.specs.SavedValue.{committed_entries}
+use Rattle.desk_published.specs.Writer.{EqualsPrefix}
 use Rattle.desk_published.proofs.writer.BoardWriter.publish.Goals as goal
 
-pub publish_first-requires-clause-noted : goal.publish_first-requires-clause-noted
-publish_first-requires-clause-noted g c =
-    rw (c.commit.ensures.value, c.entries.ensures.value, c.log.ensures.value)
-    (is_prefix c.args.self.noted _ c.requires)
-
-pub returns-then-not-wanted-clause-published : goal.returns-then-not-wanted-clause-published
-returns-then-not-wanted-clause-published g c =
-    let w = c.args.self in
-    prefix_trans (published w.inner) w.noted _ (prefix_more (published w.inner) _ w.noted c.args.self.all)
-    (is_prefix w.noted _ c.requires)
-
-pub returns-then-not-wanted-clause-grows : goal.returns-then-not-wanted-clause-grows
-returns-then-not-wanted-clause-grows g c = ([], append-nil (published c.args.self.inner))
+pub returns-clause-noted : goal.returns-clause-noted
+returns-clause-noted g c =
+    let saved = c.args.saved.now in
+    let same : take c.commit-2.result c.entries.result.now ≡ committed_entries saved =
+    ap (λ n. take n c.entries.result.now) c.commit-2.ensures.value
+    ∙ ap (take saved.commit) (c.entries.ensures.value ∙ c.log-2.ensures.value) in
+    subst (λ (w : List Entry). EqualsPrefix c.publish_after.result.0.noted w) same c.publish_after.ensures.noted

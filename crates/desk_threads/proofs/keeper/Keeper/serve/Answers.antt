@@ -122,7 +122,7 @@ returns-clause-reported g c = elim c.match-outcome.branch [
       (c.stop_unless.ensures ∙ ap (waiting_on c.goes_on_after-goes_on.result) c.note.ensures)
       c.act_and_save-outcome.ensures.answers
       (subst (λ answers. AllZip (HearsAll answers) c.stop_unless.new.waiting w.hear.new.self)
-      w.as_slice.ensures.value w.hear.ensures)
+      w.of_node-answers.ensures w.hear.ensures)
       w.waiting-is c.tell.ensures
   | in-Err w ↦ none_if_ok c.match-outcome.answer _ _ w.answer-is
 ]

@@ -1,22 +1,21 @@
 use Rattle.std.proofs.Common.{[], ◌∷◌, sym, ap, ◌∙◌, append-nil, arith}
 use Rattle.desk_mailbox.specs.Ends.{taken_by}
-use Rattle.desk_threads.proofs.Items.{same_prefix}
 use Rattle.desk_threads.proofs.EndingItems.{adds_none, adds_one}
 use Rattle.desk_threads.proofs.KeeperRuns.{if_some}
-use Rattle.desk_threads.proofs.TurnSteps.{took_none, did_none, notes_more_none, notes_more_one}
+use Rattle.desk_threads.proofs.TurnSteps.{took_none, met_none, notes_more_none, notes_more_one}
 use Rattle.desk_threads.proofs.turn.Turn.add_next.Goals as goal
 
 pub returns-then-self-clause-did : goal.returns-then-self-clause-did
 returns-then-self-clause-did g c = (
   [],
   omega arith,
-  took_none (taken_by c.args.self.taker) c.args.self.owned c.args.self.steps.items,
+  took_none g.R.Replica (taken_by c.args.self.taker) c.args.self.replica c.args.self.steps.items,
   notes_more_none c.args.self.waiting c.args.self.late,
   adds_none c.args.self.is_over,
 )
 
-pub returns-then-self-clause-committed : goal.returns-then-self-clause-committed
-returns-then-self-clause-committed g c = same_prefix _
+pub returns-then-self-clause-follows : goal.returns-then-self-clause-follows
+returns-then-self-clause-follows g c = g.met.R.Replica.follows_still c.args.self.replica
 
 pub returns-in-None-clause-did : goal.returns-in-None-clause-did
 returns-in-None-clause-did g c = (
@@ -24,14 +23,14 @@ returns-in-None-clause-did g c = (
   omega arith,
   (
     rw c.in-None.is at c.try_take-taker.ensures.took ∙ sym (append-nil (taken_by c.args.self.taker)),
-    did_none c.args.self.owned c.args.self.steps.items,
+    met_none g.R.Replica c.args.self.replica c.args.self.steps.items,
   ),
   notes_more_none c.args.self.waiting c.args.self.late,
   adds_none c.args.self.is_over,
 )
 
-pub returns-in-None-clause-committed : goal.returns-in-None-clause-committed
-returns-in-None-clause-committed g c = same_prefix _
+pub returns-in-None-clause-follows : goal.returns-in-None-clause-follows
+returns-in-None-clause-follows g c = g.met.R.Replica.follows_still c.args.self.replica
 
 pub returns-in-Some-clause-did : goal.returns-in-Some-clause-did
 returns-in-Some-clause-did g c = (

@@ -1,0 +1,69 @@
+//! What a keeper does its items to.
+
+use crate::item_step::ItemStep;
+use crate::owned_node::OwnedNode;
+use desk_mailbox::Item;
+use desk_types::WantOfMemory;
+use std::alloc::Global;
+
+/// A member of a group that does the items of a mailbox, one after the other, in memory. Its items that were refused
+/// for want of memory are counted.
+pub trait Replica {
+    ghost use Rattle.std.specs.Prelude.{ℕ, List, IfOk, OnErr};
+    ghost use Rattle.desk_types.specs.declared.packet.Message.{Message};
+    ghost use Rattle.desk_mailbox.specs.declared.item.Item.{Item as AnItem};
+    ghost use Rattle.desk_threads.specs.declared.answer.Answer.{Answer};
+
+    /// The item made this of it; these packets go out for it, and this is what it answers.
+    ghost does: { Self → AnItem → List (ℕ × Message) → List Answer → Self → Type 0 };
+
+    /// One refused item more was counted, and nothing else changed.
+    ghost refuses: { Self → Self → Type 0 };
+
+    /// It is the same member of the same group, and what it had committed stays committed.
+    ghost follows: { Self → Self → Type 0 };
+
+    /// Does an item. Where memory is refused the item is counted.
+    fn do_item(&mut self, alloc: Global, item: Item) -> Result<ItemStep, WantOfMemory>
+        ensures did { IfOk result (λ step. does self.old item step.packets.items step.answers self.new) }
+        ensures err { OnErr result (refuses self.old self.new) }
+        ensures follows { follows self.old self.new };
+
+    /// Counts an item that was refused for want of memory.
+    fn count_refused(&mut self)
+        ensures refused { refuses self.old self.new }
+        ensures follows { follows self.old self.new };
+
+    /// It follows what it was where nothing is done.
+    ghost follows_still: { (r : Self) → follows r r };
+
+    /// And over two parts of a time where it does over each.
+    ghost follows_further: { (old mid new : Self) → follows old mid → follows mid new → follows old new };
+}
+
+impl Replica for OwnedNode {
+    ghost use Rattle.desk_threads.specs.NodeReplica.{NodeDoes, NodeFollows, NodeRefuses};
+    ghost use Rattle.desk_threads.specs.NodeInOrder.{node_still, node_further};
+
+    ghost does = { NodeDoes };
+
+    ghost refuses = { NodeRefuses };
+
+    ghost follows = { NodeFollows };
+
+    fn do_item(&mut self, alloc: Global, item: Item) -> Result<ItemStep, WantOfMemory> {
+        match self.act(alloc, item) {
+            Ok(step) => Ok(ItemStep::of_node(step)),
+            Err(refused) => Err(refused),
+        }
+    }
+
+    #[tactic(auto, using(crate::proofs::ReplicaItems::node_refused))]
+    fn count_refused(&mut self) {
+        self.refuse();
+    }
+
+    ghost follows_still = { node_still };
+
+    ghost follows_further = { node_further };
+}

@@ -1,0 +1,81 @@
+//! A node with the store of its state.
+
+use crate::item_step::ItemStep;
+use crate::owned_node::OwnedNode;
+use crate::replica::Replica;
+use crate::saved_replica::SavedReplica;
+use desk_log::StateStore;
+use desk_mailbox::Item;
+use desk_types::{Entry, Refusal, WantOfMemory};
+use std::alloc::Global;
+
+/// A node, and what its state is saved to. It has one log, and no past ones.
+#[derive(Drop)]
+pub struct SavedNode<S> {
+    pub(crate) owned: OwnedNode,
+    pub(crate) store: S,
+}
+
+impl<S: StateStore> Replica for SavedNode<S> {
+    ghost use Rattle.desk_threads.specs.SavedNodes.{SavedNodeDoes, SavedNodeFollows, SavedNodeRefuses};
+    ghost use Rattle.desk_threads.specs.SavedNodes.{saved_node_still, saved_node_further};
+
+    ghost does = { SavedNodeDoes };
+
+    ghost refuses = { SavedNodeRefuses };
+
+    ghost follows = { SavedNodeFollows };
+
+    fn do_item(&mut self, alloc: Global, item: Item) -> Result<ItemStep, WantOfMemory> {
+        self.owned.do_item(alloc, item)
+    }
+
+    fn count_refused(&mut self) {
+        self.owned.count_refused();
+    }
+
+    ghost follows_still = { saved_node_still };
+
+    ghost follows_further = { saved_node_further };
+}
+
+impl<S: StateStore> SavedReplica for SavedNode<S> {
+    ghost use Rattle.std.specs.Prelude.{◌≡◌, []};
+    ghost use Rattle.desk_log.specs.SavedValue.{committed_entries};
+    ghost use Rattle.desk_threads.specs.SavedNodes.{IsSavedNode, SavesNode, FailsToSaveNode};
+    ghost use Rattle.desk_threads.specs.SavedNodes.{no_past_counts, node_saved_last, node_saved_same};
+
+    ghost stands = { λ r past. past ≡ [] };
+
+    ghost base = { λ r. 0 };
+
+    ghost cut = { λ r. committed_entries r.owned.node.saved };
+
+    ghost is_saved = { IsSavedNode S.StateStore };
+
+    ghost saves = { SavesNode S.StateStore };
+
+    ghost fails = { FailsToSaveNode S.StateStore };
+
+    fn past_len(&self) -> u64 {
+        0
+    }
+
+    fn committed(&self) -> &[Entry] {
+        let saved = self.owned.node().saved();
+        // What is committed stands in the log.
+        prove!(saved.commit() <= saved.log().len());
+        &saved.log().entries()[..saved.commit() as usize]
+    }
+
+    fn save(&mut self, known: u64) -> Result<(), Refusal> {
+        let SavedNode { owned, store } = self;
+        store.save_state(owned.node().saved(), known)
+    }
+
+    ghost past_counts = { λ r past none. no_past_counts past none };
+
+    ghost saved_last = { λ old new saves. node_saved_last _ old new saves };
+
+    ghost saved_same = { λ old new saves. node_saved_same _ old new saves };
+}
