@@ -1,4 +1,5 @@
 //! Worked examples of nodes over epochs, in which an epoch ends after two entries.
 
 mod epochs;
+mod headers;
 mod stores;

@@ -1,0 +1,122 @@
+-- What a peer's stream of packets over epochs puts into a sink.
+use Rattle.std.specs.Prelude.{map, ◌≡◌, ◌==◌, ◌&&◌, ◌≤◌, ◌<◌, ◌⊎◌, ℕ, Bool, true, false, List, [], ◌∷◌, ◌++◌, length}
+use Rattle.std.specs.Prelude.{Option}
+use Rattle.std.specs.List.{filter}
+use Rattle.std.specs.Io.KnownBytes.{Consumes, IsAtEnd}
+use Rattle.desk_types.specs.declared.packet.Message.{Message}
+use Rattle.desk_types.specs.declared.packet.Message.TheVariants.{GetState, NewState}
+use Rattle.desk_types.specs.declared.refusal.Refusal.{Refusal}
+use Rattle.desk_types.specs.declared.refusal.Refusal.TheVariants as refusals
+use Rattle.desk_frames.specs.Received.{HasNoFrame}
+use Rattle.desk_frames.specs.Stream.{AreFit, BeginsNone, frames_spelling}
+use Rattle.desk_epoch_node.specs.declared.packet.EpochPacket.{EpochPacket}
+use Rattle.desk_epoch_node.specs.declared.packet.Purpose.{Purpose}
+use Rattle.desk_epoch_node.specs.declared.packet.Purpose.TheVariants.{Step, Ask, Tell}
+use Rattle.desk_peers.specs.Incoming.{comes_from}
+use Rattle.desk_epoch_peers.specs.declared.header.EpochHeader.{EpochHeader}
+use Rattle.desk_epoch_peers.specs.declared.header.TheConstants.{MARK_BYTES}
+use Rattle.desk_epoch_peers.specs.Headers.{header_spelling, is_first, FitsHeader, BeginsNoHeader, HasNoHeader}
+
+-- Whether a packet is of the kind that its purpose has: an ask is a GetState of view 0, a tell a NewState of view 0.
+abbrev pub suits : Purpose → Message → Bool
+suits Step m = true
+suits Ask (GetState from view base) = view == 0
+suits Ask m = false
+suits Tell (NewState from view base commit entries) = view == 0
+suits Tell m = false
+
+-- whether a packet of a connection is to be put: it comes from there, and suits the connection's purpose
+abbrev pub is_put : EpochHeader → Option ℕ → Message → Bool
+is_put h from m = comes_from from m && suits h.purpose m
+
+-- a packet of a connection of this header
+abbrev pub under : EpochHeader → Message → EpochPacket
+under h m = record { epoch = h.epoch; purpose = h.purpose; packet = m }
+
+-- Those of a connection's packets that are to be put were put, in order, and nothing else.
+abbrev pub HasPutUnder : EpochHeader → Option ℕ → List EpochPacket → List EpochPacket → List Message → Type 0
+HasPutUnder h from old new packets = new ≡ old ++ map (under h) (filter (is_put h from) packets)
+
+-- This packet was put where it is to be put, or nothing was put.
+abbrev pub HasPutOneUnder : EpochHeader → Option ℕ → List EpochPacket → List EpochPacket → Message → Bool → Type 0
+HasPutOneUnder h from old new packet true = HasPutUnder h from old new (packet ∷ [])
+HasPutOneUnder h from old new packet false = new ≡ old
+
+-- What was read is a header, frames of packets, and a rest; those of the packets that are to be put were put.
+pub record HasTakenUnder (from : Option ℕ) (input left : Option (List ℕ)) (old new : List EpochPacket) (rest : List ℕ)
+    : Type 0 where
+  pub header : EpochHeader
+  pub packets : List Message
+  pub fits : FitsHeader header
+  pub fit : AreFit packets
+  pub read : Consumes input left (header_spelling header ++ (frames_spelling packets ++ rest))
+  pub put : HasPutUnder header from old new packets
+
+-- A peer's stream was ended early by this refusal: the packets that were put are the first of what was read. No frame
+-- begins after them where bytes are bad, however the stream goes on, and no whole one stands there where a read failed;
+-- where no header was read, the same is true of headers at the stream's beginning.
+pub record EndsStreamEarly (from : Option ℕ) (r : Refusal) (input left : Option (List ℕ)) (old new : List EpochPacket)
+    : Type 0 where
+  pub rest : List ℕ
+  pub taken : HasTakenUnder from input left old new rest
+  pub frame_fault : r ≡ refusals.FrameFault → BeginsNone rest
+  pub header_fault : r ≡ refusals.FrameFault → is_first taken.header ≡ true →
+      BeginsNoHeader (frames_spelling taken.packets ++ rest)
+  pub read_fault : r ≡ refusals.ReadFault → HasNoFrame rest
+  pub header_read_fault : r ≡ refusals.ReadFault → is_first taken.header ≡ true →
+      HasNoHeader (frames_spelling taken.packets ++ rest)
+
+-- Nothing else was put than packets of one header that come from there and suit its purpose.
+abbrev pub HasPutOnlyUnder : Option ℕ → List EpochPacket → List EpochPacket → Type 0
+HasPutOnlyUnder from old new = (h : EpochHeader) × (packets : List Message) × HasPutUnder h from old new packets
+
+-- so many bytes were read after these, or all that the stream had
+pub record HasFilled (input left : Option (List ℕ)) (old new : List ℕ) (count : ℕ) : Type 0 where
+  pub more : List ℕ
+  pub read : Consumes input left more
+  pub new_is : new ≡ old ++ more
+  pub enough : (length new ≡ count) ⊎ ((length new < count) × IsAtEnd left)
+
+-- Reading more of them was refused: memory was, or a read before they were there.
+pub record FailsToFill (r : Refusal) (input left : Option (List ℕ)) (old : List ℕ) (count : ℕ) : Type 0 where
+  pub more : List ℕ
+  pub read : Consumes input left more
+  pub which : (r ≡ refusals.WantOfMemory) ⊎ ((r ≡ refusals.ReadFault) × (length (old ++ more) < count))
+
+-- A stream began with this header; of what comes after it these bytes were read, too few for a frame.
+pub record BeginsUnder (input left : Option (List ℕ)) (header : EpochHeader) (bytes : List ℕ) : Type 0 where
+  pub fits : FitsHeader header
+  pub read : Consumes input left (header_spelling header ++ bytes)
+  pub few : length bytes ≤ MARK_BYTES
+  pub none : is_first header ≡ true → BeginsNoHeader bytes
+
+-- With these bytes it is refused that a header or a frame begins: memory was; or none begins them, however they go on;
+-- or no whole one stands there where a read failed.
+abbrev pub IsNoBeginning : Refusal → List ℕ → Type 0
+IsNoBeginning r bytes = (r ≡ refusals.WantOfMemory)
+    ⊎ ((r ≡ refusals.FrameFault) × BeginsNone bytes × BeginsNoHeader bytes)
+    ⊎ ((r ≡ refusals.ReadFault) × HasNoFrame bytes × HasNoHeader bytes)
+
+-- No header was read, by this refusal.
+pub record HasNoBeginning (r : Refusal) (input left : Option (List ℕ)) : Type 0 where
+  pub bytes : List ℕ
+  pub read : Consumes input left bytes
+  pub which : IsNoBeginning r bytes
+
+-- These bytes and what was read after them are the frames of packets, for which this was done, and a rest.
+pub record HasFramesAfter (bytes : List ℕ) (input left : Option (List ℕ)) (Done : List Message → Type 0) (rest : List ℕ)
+    : Type 0 where
+  pub packets : List Message
+  pub fit : AreFit packets
+  pub piece : List ℕ
+  pub read : Consumes input left piece
+  pub parts : bytes ++ piece ≡ frames_spelling packets ++ rest
+  pub done : Done packets
+
+-- A connection's frames were ended early by this refusal, where these bytes of them had been read.
+pub record EndsFrames (h : EpochHeader) (from : Option ℕ) (r : Refusal) (bytes : List ℕ)
+    (input left : Option (List ℕ)) (old new : List EpochPacket) : Type 0 where
+  pub rest : List ℕ
+  pub followed : HasFramesAfter bytes input left (HasPutUnder h from old new) rest
+  pub frame_fault : r ≡ refusals.FrameFault → BeginsNone rest
+  pub read_fault : r ≡ refusals.ReadFault → HasNoFrame rest

@@ -1,0 +1,5 @@
+pub mod Headers
+pub mod Incoming
+pub mod Links
+pub mod Outgoing
+pub mod Sinks

@@ -1,0 +1,55 @@
+-- What the connections to another node carry, over epochs.
+use Rattle.std.specs.Prelude.{◌≡◌, ◌⊎◌, ℕ, Bool, true, false, List, [], ◌++◌, Option, None, Some, MatchOption, IfSome}
+use Rattle.std.specs.Prelude.{if◌then◌else◌}
+use Rattle.std.specs.Io.KnownBytes.{Appends}
+use Rattle.desk_codec.specs.Spelling.{frame_spelling}
+use Rattle.desk_output.specs.Prefixes.{AppendsPrefix}
+use Rattle.desk_peers.specs.Links.{StartsEmpty, Closes}
+use Rattle.desk_epoch_node.specs.declared.packet.EpochPacket.{EpochPacket}
+use Rattle.desk_epoch_peers.specs.Headers.{header_of, header_spelling}
+use Rattle.desk_epoch_peers.specs.declared.header.EpochHeader.{EpochHeader}
+
+-- what the closed connections carried, in order, and the header of the open one with what it holds, where it is known
+pub record EpochLinkState : Type 0 where
+  pub closed : Option (List (List ℕ))
+  pub current : Option (EpochHeader × Option (List ℕ))
+
+-- what goes over a connection for a packet: its header, where the connection is new, and its frame
+abbrev pub text_for : Bool → EpochPacket → List ℕ
+text_for is_new p = (if is_new then header_spelling (header_of p) else []) ++ frame_spelling p.packet
+
+-- The text was written whole to a connection of this header that held this, and it stays open; or a prefix was
+-- written, and the connection is closed.
+abbrev pub IsSentUnder : EpochHeader → List ℕ → Option (List (List ℕ)) → Option (List ℕ) → Bool → EpochLinkState →
+    Type 0
+IsSentUnder h text closed held true new = (after : Option (List ℕ)) × Appends held after text
+    × (new ≡ record { closed = closed; current = Some (h, after) })
+IsSentUnder h text closed held false new = (after : Option (List ℕ)) × AppendsPrefix held after text
+    × Closes closed after new.closed × (new.current ≡ None)
+
+-- The link was ended, and its connection closed if there was one.
+abbrev pub EndsEpochLink : EpochLinkState → Option (List (List ℕ)) → Type 0
+EndsEpochLink link closed = MatchOption link.current (closed ≡ link.closed) (λ c. Closes link.closed c.1 closed)
+
+-- The open connection, if there is one, is of this header.
+abbrev pub IsUnder : EpochHeader → EpochLinkState → Type 0
+IsUnder h link = IfSome link.current (λ c. c.0 ≡ h)
+
+-- The link is as it was, or its connection was closed; it has none of another header.
+abbrev pub IsReadyFor : EpochHeader → EpochLinkState → EpochLinkState → Type 0
+IsReadyFor h old ready = IsUnder h ready × ((ready ≡ old) ⊎ ((ready.current ≡ None) × EndsEpochLink old ready.closed))
+
+-- The packet's frame was written over the open connection, which is of its header; or its header and its frame over a
+-- new one; or none could be made.
+abbrev pub IsEpochSentOnce : EpochPacket → EpochLinkState → Bool → EpochLinkState → Type 0
+IsEpochSentOnce p old sent new =
+    ((held : Option (List ℕ)) × (old.current ≡ Some (header_of p, held))
+    × IsSentUnder (header_of p) (text_for false p) old.closed held sent new)
+    ⊎ ((held : Option (List ℕ)) × (old.current ≡ None) × StartsEmpty old.closed held
+    × IsSentUnder (header_of p) (text_for true p) old.closed held sent new)
+    ⊎ ((sent ≡ false) × (old.current ≡ None) × (new ≡ old))
+
+-- The same over the open connection, or over a new one once that was closed.
+abbrev pub IsEpochSent : EpochPacket → EpochLinkState → Bool → EpochLinkState → Type 0
+IsEpochSent p old sent new = (ready : EpochLinkState) × IsReadyFor (header_of p) old ready
+    × IsEpochSentOnce p ready sent new

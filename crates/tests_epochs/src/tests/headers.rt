@@ -1,0 +1,262 @@
+//! Headers of connections between nodes over epochs: streams that are read, and what connections carry.
+
+use desk_epoch_node::{EpochPacket, Purpose};
+use desk_epoch_peers::{EpochLink, PacketSink, take_epoch_packets};
+use desk_peers::Connect;
+use desk_types::{Message, Packet};
+use std::alloc::Global;
+use tests_streams::{Sink, Source};
+
+/// The frame of a GetState of node 1 in view 0 after place 5.
+const FRAME: &[u8] = b"\0\0\0\x13\x01\x07\x01\0\0\0\0\0\0\0\0\0\0\0\0\0\0\0\x05";
+/// Headers of steps of epoch 1, of asks of epoch 3, and of tells of epoch 2.
+const STEP_1: &[u8] = b"\xff\xff\xff\x03\0\0\0\0\0\0\0\0\x01";
+
+const ASK_3: &[u8] = b"\xff\xff\xff\x03\x01\0\0\0\0\0\0\0\x03";
+
+const TELL_2: &[u8] = b"\xff\xff\xff\x03\x02\0\0\0\0\0\0\0\x02";
+/// No headers: one of a fourth purpose, and that of the first epoch's steps.
+const NO_PURPOSE: &[u8] = b"\xff\xff\xff\x03\x03\0\0\0\0\0\0\0\x01";
+
+const STEP_0: &[u8] = b"\xff\xff\xff\x03\0\0\0\0\0\0\0\0\0";
+
+/// The packets that were put.
+#[derive(Drop)]
+struct Heap {
+    packets: Vec<EpochPacket>,
+}
+
+impl PacketSink for Heap {
+    ghost put_in = { λ h. h.packets.items };
+
+    ghost same = { λ _ _. Unit {0} };
+
+    fn put(self, packet: EpochPacket) -> (Heap, bool) {
+        let Heap { mut packets } = self;
+        let put = match packets.push(packet) {
+            Ok(()) => true,
+            Err(failed) => {
+                drop(failed);
+                false
+            }
+        };
+        (Heap { packets }, put)
+    }
+
+    ghost same_still = { λ _. tt };
+
+    ghost same_further = { λ _ _ _ _ _. tt };
+}
+
+/// How many packets were put, the epoch and the purpose of the last, and the number of the refusal, or 0.
+type Told = (usize, u64, Purpose, u8);
+
+/// What comes of a stream that gives so many bytes at a time.
+fn told(alloc: Global, bytes: &[u8], most: usize) -> Told {
+    let heap = Heap {
+        packets: Vec::new(alloc),
+    };
+    let mut source = Source::in_pieces(bytes, most);
+    let (heap, outcome) = take_epoch_packets(alloc, Some(1), &mut source, heap);
+    let refusal = match outcome {
+        Ok(()) => 0,
+        Err(refusal) => refusal.number(),
+    };
+    match heap.packets.last() {
+        Some(last) => (heap.packets.len(), last.epoch, last.purpose, refusal),
+        None => (0, 0, Purpose::Step, refusal),
+    }
+}
+
+fn joined(alloc: Global, parts: &[&[u8]]) -> Option<Vec<u8>> {
+    let mut bytes = Vec::new(alloc);
+    for part in parts {
+        bytes.extend_from_slice(part).ok()?;
+    }
+    Some(bytes)
+}
+
+/// A stream, and what comes of it.
+type Row = (&'static [&'static [u8]], Told);
+
+const STREAMS: &[Row] = &[
+    (&[], (0, 0, Purpose::Step, 0)),
+    (&[FRAME, FRAME], (2, 0, Purpose::Step, 0)),
+    (&[STEP_1, FRAME, FRAME], (2, 1, Purpose::Step, 0)),
+    (&[ASK_3, FRAME], (1, 3, Purpose::Ask, 0)),
+    (&[ASK_3], (0, 0, Purpose::Step, 0)),
+    // A GetState is no tell.
+    (&[TELL_2, FRAME], (0, 0, Purpose::Step, 0)),
+    (&[NO_PURPOSE, FRAME], (0, 0, Purpose::Step, 42)),
+    (&[STEP_0, FRAME], (0, 0, Purpose::Step, 42)),
+    // A header stands at the beginning alone.
+    (&[ASK_3, ASK_3, FRAME], (0, 0, Purpose::Step, 42)),
+    (&[FRAME, ASK_3, FRAME], (1, 0, Purpose::Step, 42)),
+    (&[ASK_3, FRAME, STEP_1], (1, 3, Purpose::Ask, 42)),
+];
+
+/// Whether a row comes true of streams that give 1 to 5 bytes at a time, or all.
+fn is_told(alloc: Global, row: &Row) -> bool {
+    let Some(bytes) = joined(alloc, row.0) else {
+        return false;
+    };
+    for most in [1, 2, 3, 4, 5, 100] {
+        if told(alloc, bytes.as_slice(), most) != row.1 {
+            return false;
+        }
+    }
+    true
+}
+
+/// The first row, counted from 1, that does not come true.
+fn first_other_stream(alloc: Global) -> Option<usize> {
+    for (index, row) in STREAMS.iter().enumerate() {
+        if !is_told(alloc, row) {
+            return Some(index + 1);
+        }
+    }
+    None
+}
+
+#[test]
+fn a_stream_is_of_its_header(rt: HostRuntime) {
+    let alloc = rt.alloc();
+    assert!(rt; first_other_stream(alloc) == None);
+}
+
+/// What comes of a header and a frame that end after so many bytes.
+fn cut(count: usize) -> Told {
+    match count {
+        0 | 13 => (0, 0, Purpose::Step, 0),
+        36 => (1, 3, Purpose::Ask, 0),
+        _ => (0, 0, Purpose::Step, 43),
+    }
+}
+
+/// The first count of bytes after which a header and a frame end, and something else comes of it.
+fn first_other_cut(alloc: Global) -> Option<usize> {
+    let Some(bytes) = joined(alloc, &[ASK_3, FRAME]) else {
+        return Some(0);
+    };
+    for count in 0..=bytes.len() {
+        let (front, _) = bytes.as_slice().split_at(count);
+        if told(alloc, front, 100) != cut(count) {
+            return Some(count);
+        }
+    }
+    None
+}
+
+#[test]
+fn a_stream_ends_between_its_parts(rt: HostRuntime) {
+    let alloc = rt.alloc();
+    assert!(rt; first_other_cut(alloc) == None);
+}
+
+/// Connections to a node, which are in memory.
+#[derive(Drop)]
+struct Connections {
+    alloc: Global,
+    closed: Vec<Sink>,
+}
+
+impl Connect for Connections {
+    type Connection = Sink;
+
+    fn connect(&mut self) -> Option<Sink> {
+        Some(Sink::whole(Vec::new(self.alloc)))
+    }
+
+    fn keeps(&mut self) -> bool {
+        true
+    }
+
+    fn close(&mut self, connection: Sink) {
+        if let Err(failed) = self.closed.push(connection) {
+            drop(failed);
+        }
+    }
+}
+
+fn get_state(epoch: u64, purpose: Purpose) -> Option<EpochPacket> {
+    let message = Message::GetState {
+        from: 1,
+        view: 0,
+        base: 5,
+    };
+    if !message.is_in_range() {
+        drop(message);
+        return None;
+    }
+    Some(EpochPacket {
+        epoch,
+        purpose,
+        packet: Packet::new(message),
+    })
+}
+
+/// Packets that are sent one after the other, and what each connection carried.
+const SENT: &[(u64, Purpose)] = &[
+    (0, Purpose::Step),
+    (0, Purpose::Step),
+    (3, Purpose::Ask),
+    (3, Purpose::Ask),
+    (2, Purpose::Tell),
+    (1, Purpose::Step),
+    (0, Purpose::Step),
+];
+
+const CARRIED: &[&[&[u8]]] = &[
+    &[FRAME, FRAME],
+    &[ASK_3, FRAME, FRAME],
+    &[TELL_2, FRAME],
+    &[STEP_1, FRAME],
+    &[FRAME],
+];
+
+fn sent_packets(alloc: Global) -> Option<Vec<EpochPacket>> {
+    let mut packets = Vec::new(alloc);
+    for row in SENT {
+        packets.push(get_state(row.0, row.1)?).ok()?;
+    }
+    Some(packets)
+}
+
+/// The connections over which the packets went.
+fn carried(alloc: Global) -> Option<Vec<Sink>> {
+    let packets = sent_packets(alloc)?;
+    let mut link = EpochLink::new(Connections {
+        alloc,
+        closed: Vec::new(alloc),
+    });
+    for packet in packets.as_slice() {
+        let (next, _) = link.send(alloc, packet);
+        link = next;
+    }
+    let Connections { alloc: _, closed } = link.close();
+    Some(closed)
+}
+
+/// The first connection, counted from 1, that carried something else.
+fn first_other_connection(alloc: Global) -> Option<usize> {
+    let Some(sinks) = carried(alloc) else {
+        return Some(0);
+    };
+    for (index, parts) in CARRIED.iter().enumerate() {
+        match (sinks.get(index), joined(alloc, parts)) {
+            (Some(sink), Some(bytes)) => {
+                if sink.sent() != bytes.as_slice() {
+                    return Some(index + 1);
+                }
+            }
+            _ => return Some(index + 1),
+        }
+    }
+    None
+}
+
+#[test]
+fn a_connection_carries_packets_of_one_header(rt: HostRuntime) {
+    let alloc = rt.alloc();
+    assert!(rt; first_other_connection(alloc) == None);
+}
