@@ -3,10 +3,6 @@
 use denote.RattleType.{RattleType}
 use denote.Param.Send.{IsSend, sendable}
 use Rattle.std.proofs.Crossing.{crosses}
-use Rattle.std.specs.contracts.alloc.Global as Global
-use Rattle.std.specs.contracts.impls.GlobalAllocator.TheImpl.{ghosts}
-use Rattle.std.specs.contracts.option.Option as Option
-use Rattle.std.specs.contracts.vec.Vec as Vec
 use Rattle.desk_admission.specs.contracts.address.GroupAddress as GroupAddress
 use Rattle.desk_follow.specs.contracts.group_nodes.GroupNodes as GroupNodes
 use Rattle.desk_follow.specs.contracts.node_stream.NodeStream as NodeStream
@@ -15,14 +11,11 @@ use Rattle.desk_follow.specs.contracts.try_log.TryLog as TryLog
 tries_cross : IsSend TryLog.the_field.row
 tries_cross = search (crosses, sendable) depth 20
 
-stream_crosses : IsSend NodeStream.the_row
+stream_crosses : IsSend NodeStream.the_field.row
 stream_crosses = search (crosses, sendable) depth 40 fits 5000
-
-streams_cross : IsSend (Vec.the_field (Option.the_row NodeStream.the_row) Global.the_row ghosts).row
-streams_cross = search (stream_crosses, crosses, sendable) depth 20
 
 address_crosses : IsSend GroupAddress.the_field.row
 address_crosses = search (crosses, sendable) depth 40 fits 5000
 
 pub nodes_cross : (R S : RattleType) → IsSend R → IsSend (GroupNodes.the_field R S).row
-nodes_cross R S r = search (tries_cross, streams_cross, address_crosses, crosses, sendable) depth 40
+nodes_cross R S r = search (tries_cross, stream_crosses, address_crosses, crosses, sendable) depth 40 fits 5000

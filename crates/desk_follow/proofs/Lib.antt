@@ -6,3 +6,4 @@ pub mod Trying
 pub mod Placed
 pub mod Readers
 pub mod Crossing
+pub mod OpenStreams

@@ -1,6 +1,9 @@
 //! The nodes of a group, over connections to their ports for sessions.
 
-ghost use Rattle.std.specs.Prelude.{◌≡◌, [], IfOk};
+ghost use Rattle.std.specs.Prelude.{◌≡◌, [], ℕ, List, None, IfOk, IfErr, IfSome};
+ghost use Rattle.desk_lines.specs.Holding.{HoldsLine};
+ghost use Rattle.desk_follow.specs.Tries.{GrowsByTry, came_of};
+ghost use Rattle.desk_follow.specs.Streams.{stream_at};
 
 use crate::node_stream::{NodeStream, open_stream};
 use crate::nodes::{NoReply, Nodes};
@@ -70,17 +73,27 @@ impl<R: Net<Stream = TcpStream> + Clock + RandomSource + Drop> GroupNodes<R> {
         })
     }
 
-    /// The connection to a node, a new one where none was kept.
+    /// Takes the connection that is open to a node, if one is.
+    #[tactic(auto, using(crate::proofs::OpenStreams::none_set, crate::proofs::OpenStreams::none_past))]
+    fn take_open(&mut self, node: u8) -> Option<NodeStream>
+        ensures tries { self.new.tries ≡ self.old.tries }
+        ensures taken { stream_at self.new.streams.items node ≡ None }
+    {
+        match self.streams.get_mut(node as usize) {
+            Some(open) => open.take(),
+            None => None,
+        }
+    }
+
+    /// The connection to a node: the open one where a line may be sent on it, else a new one.
     fn take_stream(&mut self, node: u8) -> Option<NodeStream>
         ensures tries { self.new.tries ≡ self.old.tries }
+        ensures dialled { IfSome result (λ stream. stream.node ≡ node) }
+        ensures taken { stream_at self.new.streams.items node ≡ None }
     {
-        let preserved = match self.streams.get_mut(node as usize) {
-            Some(preserved) => preserved.take(),
-            None => None,
-        };
-        match preserved {
-            Some(stream) => Some(stream),
-            None => open_stream(&self.rt, self.alloc, &self.address, node),
+        match self.take_open(node) {
+            Some(stream) if stream.leads_to(node) => Some(stream),
+            _ => open_stream(&self.rt, self.alloc, &self.address, node),
         }
     }
 
@@ -88,9 +101,26 @@ impl<R: Net<Stream = TcpStream> + Clock + RandomSource + Drop> GroupNodes<R> {
     fn keep_stream(&mut self, node: u8, stream: NodeStream)
         ensures tries { self.new.tries ≡ self.old.tries }
     {
-        if let Some(preserved) = self.streams.get_mut(node as usize) {
-            *preserved = Some(stream);
+        if let Some(open) = self.streams.get_mut(node as usize) {
+            *open = Some(stream);
         }
+    }
+
+    /// Asks a node a line, once.
+    fn ask_once(&mut self, node: u8, line: &LineBuffer) -> Result<String, NoReply>
+        ensures tried { (text : List ℕ) → HoldsLine line.now text →
+            GrowsByTry self.old.tries self.new.tries node text (came_of result) }
+        // No connection stays open to a node that gave no reply.
+        ensures closed { IfErr result (λ _. stream_at self.new.streams.items node ≡ None) }
+    {
+        let Some(stream) = self.take_stream(node) else {
+            return self.tries.note(node, line, Err(NoReply::Broken));
+        };
+        let (stream, reply) = stream.reply(self.alloc, line, &mut self.tries);
+        if let Some(stream) = stream {
+            self.keep_stream(node, stream);
+        }
+        reply
     }
 
     /// Whether there is time for another try. There is none where the clock fails.
@@ -118,14 +148,7 @@ impl<R: Net<Stream = TcpStream> + Clock + RandomSource + Drop> Nodes for GroupNo
 
     fn ask(self, node: u8, line: &LineBuffer) -> (GroupNodes<R>, Result<String, NoReply>) {
         let mut nodes = self;
-        let Some(stream) = nodes.take_stream(node) else {
-            let reply = nodes.tries.note(node, line, Err(NoReply::Broken));
-            return (nodes, reply);
-        };
-        let (stream, reply) = stream.reply(nodes.alloc, node, line, &mut nodes.tries);
-        if reply.is_ok() {
-            nodes.keep_stream(node, stream);
-        }
+        let reply = nodes.ask_once(node, line);
         (nodes, reply)
     }
 

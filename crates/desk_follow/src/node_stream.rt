@@ -1,7 +1,9 @@
 //! A connection to a node's sessions.
 
-ghost use Rattle.std.specs.Prelude.{◌≡◌, ℕ, List, IfOk, IfErr, string_bytes};
+ghost use Rattle.std.specs.Prelude.{◌≡◌, ◌+◌, ◌<◌, ◌^◌, ℕ, List, IfOk, IfErr, IfSome, None, true, string_bytes};
+ghost use Rattle.desk_admission.specs.Hosts.{host_of};
 ghost use Rattle.desk_lines.specs.Holding.{HoldsLine};
+ghost use Rattle.desk_types.specs.declared.limits.TheConstants.{SESSION_PORTS};
 ghost use Rattle.desk_send.specs.Replies.{IsReplyLine};
 ghost use Rattle.desk_follow.specs.declared.nodes.NoReply.TheVariants as faults;
 ghost use Rattle.desk_follow.specs.Tries.{RepliesOver, BreaksOver, GrowsByTry, came_of};
@@ -18,7 +20,7 @@ use desk_send::{NodeConnection, send_lines};
 use desk_types::{Refusal, session_port};
 use std::alloc::Global;
 use std::io;
-use std::io::{BufRead, BufReader, Read, Write};
+use std::io::{BufRead, BufReader, ErrorKind, Read, Write};
 use std::net::{Net, TcpStream};
 use std::random::RandomSource;
 use std::time::Duration;
@@ -26,11 +28,14 @@ use std::time::Duration;
 /// For how long a node may be silent that a line was sent to, in seconds.
 const SILENT_SECONDS: u64 = 3;
 
-/// A connection to a node, without a key or after a handshake.
+/// A connection to a node.
 #[derive(Drop)]
-pub(crate) enum NodeStream {
-    Open(TcpStream),
-    Keyed(KeyedStream),
+pub(crate) struct NodeStream {
+    /// The node that was dialled.
+    node: u8,
+    stream: TcpStream,
+    /// Both directions after a handshake, where the node's port has a key.
+    keyed: Option<KeyedStream>,
 }
 
 /// Both directions of a connection after a handshake.
@@ -38,6 +43,28 @@ pub(crate) enum NodeStream {
 pub(crate) struct KeyedStream {
     input: Opened<TcpStream>,
     output: Sealed<TcpStream>,
+}
+
+/// Where the sessions of a node are reached.
+#[derive(Drop)]
+struct NodeAddress<'a> {
+    node: u8,
+    host: &'a str,
+    port: u16,
+}
+
+/// Where the sessions of a node of a group are reached.
+fn node_address<'a>(address: &'a GroupAddress, node: u8) -> NodeAddress<'a>
+    ensures node { result.node ≡ node }
+    ensures host { result.host.now ≡ host_of address.now.hosts.text node }
+    ensures port { address.now.first + node + SESSION_PORTS < 2 ^ 16 →
+        result.port ≡ address.now.first + node + SESSION_PORTS }
+{
+    NodeAddress {
+        node,
+        host: address.hosts.of_node(node),
+        port: session_port(address.first, node),
+    }
 }
 
 /// A new connection to a port, on which each line goes out at once.
@@ -50,22 +77,44 @@ fn connected<R: Net<Stream = TcpStream>>(rt: &R, host: &str, port: u16) -> io::R
     Ok(stream)
 }
 
-/// A connection after its handshake, as a client.
+/// Both directions of a connection after its handshake, as a client.
 fn proved<R: RandomSource>(
     rt: &R,
     alloc: Global,
-    stream: TcpStream,
+    stream: &TcpStream,
     key: &Key,
     port: u16,
 ) -> Option<KeyedStream> {
     let input = stream.try_clone().ok()?;
+    let output = stream.try_clone().ok()?;
     let nonce = drawn_nonce(rt).ok()?;
     let keyed = KeyedPort {
         key: key.copy(),
         endpoint: Endpoint::of_sessions(port),
     };
-    let (input, output) = dial(alloc, input, stream, &keyed, CLIENT, &nonce).ok()?;
+    let (input, output) = dial(alloc, input, output, &keyed, CLIENT, &nonce).ok()?;
     Some(KeyedStream { input, output })
+}
+
+/// A new connection to the node at an address. None where it takes none, or does not show that it holds the key.
+fn dialled<R: Net<Stream = TcpStream> + RandomSource>(
+    rt: &R,
+    alloc: Global,
+    address: &NodeAddress<'_>,
+    key: &Option<Key>,
+) -> Option<NodeStream>
+    ensures node { IfSome result (λ stream. stream.node ≡ address.now.node) }
+{
+    let stream = connected(rt, address.host, address.port).ok()?;
+    let keyed = match key {
+        None => None,
+        Some(key) => Some(proved(rt, alloc, &stream, key, address.port)?),
+    };
+    Some(NodeStream {
+        node: address.node,
+        stream,
+        keyed,
+    })
 }
 
 /// A new connection to a node of a group. None where it takes none, or does not show that it holds the key.
@@ -74,15 +123,24 @@ pub(crate) fn open_stream<R: Net<Stream = TcpStream> + RandomSource>(
     alloc: Global,
     address: &GroupAddress,
     node: u8,
-) -> Option<NodeStream> {
-    let port = session_port(address.first, node);
-    let stream = connected(rt, address.hosts.of_node(node), port).ok()?;
-    match &address.key {
-        None => Some(NodeStream::Open(stream)),
-        Some(key) => match proved(rt, alloc, stream, key, port) {
-            Some(stream) => Some(NodeStream::Keyed(stream)),
-            None => None,
-        },
+) -> Option<NodeStream>
+    ensures node { IfSome result (λ stream. stream.node ≡ node) }
+{
+    dialled(rt, alloc, &node_address(address, node), &address.key)
+}
+
+/// Whether neither a byte nor the end has come on a connection on which no reply is awaited.
+fn is_quiet(stream: &TcpStream) -> bool {
+    if stream.set_nonblocking(true).is_err() {
+        return false;
+    }
+    let came = stream.peek(&mut [0]);
+    if stream.set_nonblocking(false).is_err() {
+        return false;
+    }
+    match came {
+        Ok(_) => false,
+        Err(error) => error.kind() == ErrorKind::WouldBlock,
     }
 }
 
@@ -167,36 +225,57 @@ fn send_on<I: Read + Drop, O: Write + Drop>(
 }
 
 impl NodeStream {
-    /// The reply that the node with this number gives to a line, which is noted as one try.
+    /// Whether a line may be sent to this node on the connection: it leads there, and has not ended since the last
+    /// reply. So no line is lost on one whose node was started again.
+    pub(crate) fn leads_to(&self, node: u8) -> bool
+        ensures { result ≡ true → self.now.node ≡ node }
+    {
+        self.node == node && is_quiet(&self.stream)
+    }
+
+    /// The reply that the node gives to a line, which is noted as one try.
+    fn exchange(
+        &mut self,
+        alloc: Global,
+        line: &LineBuffer,
+        tries: &mut TryLog,
+    ) -> Result<String, NoReply>
+        ensures whole { IfOk result (λ reply. (text : List ℕ) → HoldsLine line.now text →
+            IsReplyLine (string_bytes reply)) }
+        ensures tried { (text : List ℕ) → HoldsLine line.now text →
+            GrowsByTry tries.old tries.new self.old.node text (came_of result) }
+    {
+        match &mut self.keyed {
+            None => noted_reply(alloc, &self.stream, &self.stream, self.node, line, tries),
+            Some(keyed) => noted_reply(
+                alloc,
+                &mut keyed.input,
+                &mut keyed.output,
+                self.node,
+                line,
+                tries,
+            ),
+        }
+    }
+
+    /// The reply that the node gives to a line, which is noted as one try. The connection comes back with a reply
+    /// alone, and is closed without one: a late reply on it would pass for that to the next line.
     pub(crate) fn reply(
         self,
         alloc: Global,
-        node: u8,
         line: &LineBuffer,
         tries: &mut TryLog,
-    ) -> (NodeStream, Result<String, NoReply>)
+    ) -> (Option<NodeStream>, Result<String, NoReply>)
         ensures whole { IfOk result.1 (λ reply. (text : List ℕ) → HoldsLine line.now text →
             IsReplyLine (string_bytes reply)) }
         ensures tried { (text : List ℕ) → HoldsLine line.now text →
-            GrowsByTry tries.old tries.new node text (came_of result.1) }
+            GrowsByTry tries.old tries.new self.node text (came_of result.1) }
+        ensures closed { IfErr result.1 (λ _. result.0 ≡ None) }
     {
-        match self {
-            NodeStream::Open(stream) => {
-                let reply = noted_reply(alloc, &stream, &stream, node, line, tries);
-                (NodeStream::Open(stream), reply)
-            }
-            NodeStream::Keyed(stream) => {
-                let mut stream = stream;
-                let reply = noted_reply(
-                    alloc,
-                    &mut stream.input,
-                    &mut stream.output,
-                    node,
-                    line,
-                    tries,
-                );
-                (NodeStream::Keyed(stream), reply)
-            }
+        let mut stream = self;
+        match stream.exchange(alloc, line, tries) {
+            Ok(reply) => (Some(stream), Ok(reply)),
+            Err(fault) => (None, Err(fault)),
         }
     }
 
@@ -207,12 +286,14 @@ impl NodeStream {
         line: &[u8],
         reply: &mut Vec<u8>,
     ) -> Result<(), Refusal> {
-        match self {
-            NodeStream::Open(stream) => send_on(alloc, &stream, &stream, line, reply),
-            NodeStream::Keyed(stream) => {
-                let mut stream = stream;
-                send_on(alloc, &mut stream.input, &mut stream.output, line, reply)
-            }
+        let NodeStream {
+            node: _,
+            stream,
+            keyed,
+        } = self;
+        match keyed {
+            None => send_on(alloc, &stream, &stream, line, reply),
+            Some(KeyedStream { input, output }) => send_on(alloc, input, output, line, reply),
         }
     }
 }

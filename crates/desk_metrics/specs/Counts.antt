@@ -1,8 +1,8 @@
 -- What the counts of the page's server are after each thing that is counted.
 use Rattle.std.specs.Prelude.{ℕ, ◌+◌, ◌-◌, ◌^◌, ◌==◌, nat_le, min, Bool, map, if◌then◌else◌}
 use Rattle.desk_metrics.specs.declared.counts.Counts.{Counts}
-use Rattle.desk_metrics.specs.declared.counts.ForwardOutcome.{ForwardOutcome}
-use Rattle.desk_metrics.specs.declared.counts.ForwardOutcome.TheVariants as outcomes
+use Rattle.desk_metrics.specs.declared.counts.CommandOutcome.{CommandOutcome}
+use Rattle.desk_metrics.specs.declared.counts.CommandOutcome.TheVariants as outcomes
 use Rattle.desk_metrics.specs.declared.latency.Bucket.{Bucket}
 use Rattle.desk_metrics.specs.declared.latency.Latency.{Latency}
 use Rattle.desk_metrics.specs.declared.status.StatusCount.{StatusCount}
@@ -30,11 +30,12 @@ latency_after microseconds latency = record latency {
   microseconds = count_more latency.microseconds microseconds;
 }
 
--- the counts with one more text that was forwarded, by what became of it
-abbrev pub after_outcome : ForwardOutcome → Counts → Counts
+-- the counts with one more text that a browser sent for nodes, by what became of it
+abbrev pub after_outcome : CommandOutcome → Counts → Counts
 after_outcome outcomes.Done counts = record counts { done = next_count counts.done }
 after_outcome outcomes.Refused counts = record counts { refused = next_count counts.refused }
 after_outcome outcomes.Unanswered counts = record counts { unanswered = next_count counts.unanswered }
+after_outcome outcomes.Busy counts = record counts { busy = next_count counts.busy }
 
 -- the count of a status, with one more answer
 abbrev pub counted_status : ℕ → StatusCount → StatusCount

@@ -44,15 +44,16 @@ abbrev pub nodes_text : List (Option ℕ) → List ℕ
 nodes_text places =
     up_head ++ (samples_from up_line 0 places ++ (place_head ++ samples_from place_line 0 places))
 
--- how many texts were forwarded, by what became of them
+-- how many texts browsers sent for nodes, by what became of them
 abbrev pub commands_text : Counts → List ℕ
 commands_text counts =
-    codes "# HELP desk_page_commands_total Requests to /command that were forwarded, by outcome.\n"
+    codes "# HELP desk_page_commands_total Requests to /command from this page, by outcome.\n"
     ++ (codes "# TYPE desk_page_commands_total counter\n"
     ++ (codes "desk_page_commands_total{outcome=\"done\"} " ++ (decimal counts.done
     ++ (codes "\ndesk_page_commands_total{outcome=\"refused\"} " ++ (decimal counts.refused
     ++ (codes "\ndesk_page_commands_total{outcome=\"unanswered\"} " ++ (decimal counts.unanswered
-    ++ codes "\n")))))))
+    ++ (codes "\ndesk_page_commands_total{outcome=\"busy\"} " ++ (decimal counts.busy
+    ++ codes "\n")))))))))
 
 -- the sample that says how many took at most so many seconds
 abbrev pub bucket_line : Bucket → List ℕ
@@ -62,10 +63,10 @@ bucket_line bucket =
 
 abbrev pub latency_head : List ℕ
 latency_head =
-    codes "# HELP desk_page_command_duration_seconds How long requests to /command took that were forwarded.\n"
+    codes "# HELP desk_page_command_duration_seconds How long requests to /command from this page took.\n"
     ++ codes "# TYPE desk_page_command_duration_seconds histogram\n"
 
--- all that were forwarded; a sum of microseconds is written in seconds, as in `1500e-6`
+-- all of them; a sum of microseconds is written in seconds, as in `1500e-6`
 abbrev pub latency_sums : Latency → List ℕ
 latency_sums latency =
     codes "desk_page_command_duration_seconds_bucket{le=\"+Inf\"} " ++ (decimal latency.count

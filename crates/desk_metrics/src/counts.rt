@@ -6,24 +6,27 @@ ghost use Rattle.desk_metrics.specs.Counts.{next_count, after_outcome, latency_a
 use crate::latency::Latency;
 use crate::status::{StatusCount, count_status};
 
-/// What became of a text that was forwarded to nodes.
+/// What became of a text that a browser sent for nodes, from this site's own page.
 #[derive(Clone, Copy, Debug, PartialEq, Eq)]
-pub enum ForwardOutcome {
+pub enum CommandOutcome {
     /// Each line got its final reply, and none of these is a refusal.
     Done,
     /// Each line got its final reply, and one of these is a refusal.
     Refused,
     /// Some line got no final reply in time.
     Unanswered,
+    /// It was forwarded to no node, since nobody was free to do so in time.
+    Busy,
 }
 
 /// What the page's server has counted since its start. A counter that has come to 2^64 - 1 stays there.
 #[derive(Clone, Copy)]
 pub struct Counts {
-    /// Texts that were forwarded, by what became of them.
+    /// Texts that browsers sent for nodes, by what became of them.
     pub done: u64,
     pub refused: u64,
     pub unanswered: u64,
+    pub busy: u64,
     /// How long they took.
     pub latency: Latency,
     /// Connections of browsers that are open.
@@ -39,6 +42,7 @@ impl Counts {
             done: 0,
             refused: 0,
             unanswered: 0,
+            busy: 0,
             latency: Latency::new(),
             connections: 0,
             statuses: [
@@ -56,18 +60,19 @@ impl Counts {
         }
     }
 
-    /// Counts what became of a text that was forwarded.
-    pub fn count_outcome(&mut self, outcome: ForwardOutcome)
+    /// Counts what became of a text that a browser sent for nodes.
+    pub fn count_outcome(&mut self, outcome: CommandOutcome)
         ensures { self.new ≡ after_outcome outcome self.old }
     {
         match outcome {
-            ForwardOutcome::Done => self.done = self.done.saturating_add(1),
-            ForwardOutcome::Refused => self.refused = self.refused.saturating_add(1),
-            ForwardOutcome::Unanswered => self.unanswered = self.unanswered.saturating_add(1),
+            CommandOutcome::Done => self.done = self.done.saturating_add(1),
+            CommandOutcome::Refused => self.refused = self.refused.saturating_add(1),
+            CommandOutcome::Unanswered => self.unanswered = self.unanswered.saturating_add(1),
+            CommandOutcome::Busy => self.busy = self.busy.saturating_add(1),
         }
     }
 
-    /// Counts how many microseconds a text took that was forwarded.
+    /// Counts how many microseconds such a text took.
     pub fn count_latency(&mut self, microseconds: u64)
         ensures latency { self.new.latency ≡ latency_after microseconds self.old.latency }
         ensures connections { self.new.connections ≡ self.old.connections }

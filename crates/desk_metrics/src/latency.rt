@@ -1,4 +1,4 @@
-//! How long texts took that were forwarded.
+//! How long texts took that browsers sent for nodes.
 
 ghost use Rattle.std.specs.Prelude.{◌≡◌, map};
 ghost use Rattle.desk_metrics.specs.Counts.{counted, observed, latency_after};
@@ -46,8 +46,8 @@ fn observe_all(buckets: &mut [Bucket], microseconds: u64)
     }
 }
 
-/// How long texts took that were forwarded: how many took at most so long, by bound, how many there were, and how many
-/// microseconds all took.
+/// How long texts took that browsers sent for nodes: how many took at most so long, by bound, how many there were, and
+/// how many microseconds all took.
 #[derive(Clone, Copy)]
 pub struct Latency {
     pub buckets: [Bucket; 11],

@@ -6,7 +6,7 @@ mod latency;
 mod status;
 mod text;
 
-pub use counts::{Counts, ForwardOutcome};
+pub use counts::{CommandOutcome, Counts};
 pub use latency::{Bucket, Latency};
 pub use status::StatusCount;
 pub use text::write_metrics;

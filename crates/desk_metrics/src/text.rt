@@ -112,7 +112,7 @@ fn write_nodes<W: Write>(writer: &mut W, places: &[Option<u64>]) -> Result<(), R
     write_places(writer, places)
 }
 
-/// Writes how many texts were forwarded, by what became of them.
+/// Writes how many texts browsers sent for nodes, by what became of them.
 fn write_commands<W: Write>(writer: &mut W, counts: &Counts) -> Result<(), Refusal>
     ensures { OnOk result
         (Appends (W.contents writer.old) (W.contents writer.new) (commands_text counts.now)) }
@@ -121,7 +121,7 @@ fn write_commands<W: Write>(writer: &mut W, counts: &Counts) -> Result<(), Refus
         writer,
         &[
             Text(
-                "# HELP desk_page_commands_total Requests to /command that were forwarded, by outcome.\n\
+                "# HELP desk_page_commands_total Requests to /command from this page, by outcome.\n\
                 # TYPE desk_page_commands_total counter\n\
                 desk_page_commands_total{outcome=\"done\"} ",
             ),
@@ -130,6 +130,8 @@ fn write_commands<W: Write>(writer: &mut W, counts: &Counts) -> Result<(), Refus
             Number(counts.refused),
             Text("\ndesk_page_commands_total{outcome=\"unanswered\"} "),
             Number(counts.unanswered),
+            Text("\ndesk_page_commands_total{outcome=\"busy\"} "),
+            Number(counts.busy),
             Text("\n"),
         ],
     )
@@ -166,7 +168,7 @@ fn write_buckets<W: Write>(writer: &mut W, buckets: &[Bucket]) -> Result<(), Ref
     Ok(())
 }
 
-/// Writes how long texts took that were forwarded.
+/// Writes how long these texts took.
 fn write_latency<W: Write>(writer: &mut W, latency: &Latency) -> Result<(), Refusal>
     ensures { OnOk result
         (Appends (W.contents writer.old) (W.contents writer.new) (latency_text latency.now)) }
@@ -174,7 +176,7 @@ fn write_latency<W: Write>(writer: &mut W, latency: &Latency) -> Result<(), Refu
     write_parts(
         writer,
         &[Text(
-            "# HELP desk_page_command_duration_seconds How long requests to /command took that were forwarded.\n\
+            "# HELP desk_page_command_duration_seconds How long requests to /command from this page took.\n\
             # TYPE desk_page_command_duration_seconds histogram\n",
         )],
     )?;

@@ -1,6 +1,7 @@
 //! What is counted, and the answer that tells it.
 
-ghost use Rattle.std.specs.Prelude.{◌≡◌, ◌++◌, [], IfOk, OnOk, option_map};
+ghost use Rattle.std.specs.Prelude.{◌≡◌, ◌++◌, [], IfOk, OnOk};
+ghost use Rattle.std.specs.Result.{result_map_both};
 ghost use Rattle.desk_metrics.specs.Metrics.{metrics_text};
 ghost use Rattle.http_server.specs.Response.{fields_of};
 ghost use Rattle.desk_page.specs.Answers.{HasText};
@@ -11,8 +12,9 @@ ghost use Rattle.desk_page.specs.Groups.{seen_places};
 use crate::fields::add_field;
 use crate::group::SeenGroup;
 use crate::reported::after_mark;
+use crate::shared::NoReplies;
 use bytes::Bytes;
-use desk_metrics::{Counts, ForwardOutcome, write_metrics};
+use desk_metrics::{CommandOutcome, Counts, write_metrics};
 use http::HeaderValue;
 use http_server::Response;
 use std::alloc::{AllocError, Global};
@@ -28,19 +30,20 @@ fn tells_refusal(out: &[u8]) -> bool
     }
 }
 
-/// What became of a text that was forwarded, by the replies to its lines, if there are any.
-pub(crate) fn outcome_of(found: &Option<Vec<u8>>) -> ForwardOutcome
-    ensures { result ≡ outcome_of (option_map (λ out. out.items) found.now) }
+/// What became of a text, by the replies to its lines, or why there are none.
+pub(crate) fn outcome_of(found: &Result<Vec<u8>, NoReplies>) -> CommandOutcome
+    ensures { result ≡ outcome_of (result_map_both (λ out. out.items) (λ fault. fault) found.now) }
 {
     match found {
-        Some(out) => {
+        Ok(out) => {
             if tells_refusal(out.as_slice()) {
-                ForwardOutcome::Refused
+                CommandOutcome::Refused
             } else {
-                ForwardOutcome::Done
+                CommandOutcome::Done
             }
         }
-        None => ForwardOutcome::Unanswered,
+        Err(NoReplies::GivenUp) => CommandOutcome::Unanswered,
+        Err(NoReplies::Busy) => CommandOutcome::Busy,
     }
 }
 

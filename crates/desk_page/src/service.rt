@@ -15,8 +15,8 @@ use crate::files::{put_icon, put_index, put_script, put_style};
 use crate::metrics::{microseconds_since, outcome_of, put_metrics};
 use crate::query::place_asked;
 use crate::shared::{
-    SharedPage, awaited_board, count_answer, count_closed, count_forward, count_opened, counts_now,
-    replies, seen_group,
+    NoReplies, SharedPage, awaited_board, count_answer, count_closed, count_command, count_opened,
+    counts_now, replies, seen_group,
 };
 use bytes::Bytes;
 use desk_http::{Admitted, Asked, add_policy, admit, asked_for};
@@ -147,13 +147,13 @@ impl<D: Handler + Drop, R: Wait + Clock> PageService<D, R> {
     }
 
     /// Has a handler answer the lines of a body, and counts what became of it, and how long it took.
-    fn counted_replies(&self, admitted: &Admitted<'_>) -> Option<Vec<u8>>
-        ensures { IfSome result (λ out. IsWritten D.answers admitted.now.body.now out.items) }
+    fn counted_replies(&self, admitted: &Admitted<'_>) -> Result<Vec<u8>, NoReplies>
+        ensures { IfOk result (λ out. IsWritten D.answers admitted.now.body.now out.items) }
     {
         let began = Instant::now(&self.rt).ok();
         let found = replies(&self.rt, self.alloc, &self.shared, admitted);
         let took = microseconds_since(&self.rt, &began);
-        count_forward(&self.rt, &self.shared, outcome_of(&found), took);
+        count_command(&self.rt, &self.shared, outcome_of(&found), took);
         found
     }
 
@@ -166,8 +166,8 @@ impl<D: Handler + Drop, R: Wait + Clock> PageService<D, R> {
         ensures fields { OnOk result (fields_of response.new ≡ json_by response.new.status) }
     {
         match self.counted_replies(admitted) {
-            Some(out) => put_json(Bytes::from_vec(out)?, response),
-            None => put_status(StatusCode::SERVICE_UNAVAILABLE, response),
+            Ok(out) => put_json(Bytes::from_vec(out)?, response),
+            Err(_) => put_status(StatusCode::SERVICE_UNAVAILABLE, response),
         }
     }
 

@@ -12,7 +12,7 @@ use crate::metrics::microseconds_since;
 use bytes::Bytes;
 use desk_http::Admitted;
 use desk_lines::Handler;
-use desk_metrics::{Counts, ForwardOutcome};
+use desk_metrics::{CommandOutcome, Counts};
 use desk_types::Refusal;
 use std::alloc::{AllocError, Global};
 use std::sync::{Condvar, CondvarTimeouts, Mutex, Wait};
@@ -27,6 +27,15 @@ const FREE_MILLISECONDS: u64 = 10;
 
 /// So often it is looked for where the clock fails. Else these looks take longer than the time for them.
 const FREE_LOOKS: u64 = 500;
+
+/// Why there are no replies to the lines of a body.
+#[derive(Clone, Copy, Debug, PartialEq, Eq)]
+pub(crate) enum NoReplies {
+    /// A handler was asked, and gave up.
+    GivenUp,
+    /// No handler was free in time, and none was asked.
+    Busy,
+}
 
 /// What the threads of a page's server share: the board that was told last, what is known of the nodes, what was
 /// counted, and two handlers that answer commands.
@@ -148,11 +157,12 @@ pub(crate) fn counts_now<D: Handler, R: Wait>(rt: &R, shared: &SharedPage<D>) ->
     *counts
 }
 
-/// Counts a text that was forwarded, by what became of it, and how many microseconds it took, where that is known.
-pub(crate) fn count_forward<D: Handler, R: Wait>(
+/// Counts a text that a browser sent for nodes, by what became of it, and how many microseconds it took, where that is
+/// known.
+pub(crate) fn count_command<D: Handler, R: Wait>(
     rt: &R,
     shared: &SharedPage<D>,
-    outcome: ForwardOutcome,
+    outcome: CommandOutcome,
     microseconds: Option<u64>,
 ) {
     let mut counts = shared.counts.lock(rt);
@@ -204,32 +214,34 @@ fn replies_by<D: Handler + Drop>(
     alloc: Global,
     preserved: &mut Option<D>,
     admitted: &Admitted<'_>,
-) -> Option<Vec<u8>>
-    ensures { IfSome result (λ out. IsWritten D.answers admitted.now.body.now out.items) }
+) -> Result<Vec<u8>, NoReplies>
+    ensures { IfOk result (λ out. IsWritten D.answers admitted.now.body.now out.items) }
 {
-    let handler = preserved.take()?;
+    let Some(handler) = preserved.take() else {
+        return Err(NoReplies::Busy);
+    };
     let (handler, outcome) = ask(alloc, handler, admitted.body);
     *preserved = Some(handler);
     match outcome {
-        Ok(out) => Some(out),
-        Err(_) => None,
+        Ok(out) => Ok(out),
+        Err(_) => Err(NoReplies::GivenUp),
     }
 }
 
-/// Replies by the handler that is free, the first before the second. There is nothing where neither is.
+/// Replies by the handler that is free, the first before the second.
 fn replies_now<D: Handler + Drop>(
     alloc: Global,
     shared: &SharedPage<D>,
     admitted: &Admitted<'_>,
-) -> Option<Option<Vec<u8>>>
-    ensures { IfSome result (λ found. IfSome found (λ out. IsWritten D.answers admitted.now.body.now out.items)) }
+) -> Result<Vec<u8>, NoReplies>
+    ensures { IfOk result (λ out. IsWritten D.answers admitted.now.body.now out.items) }
 {
     if let Some(mut preserved) = shared.first.try_lock() {
-        return Some(replies_by(alloc, &mut *preserved, admitted));
+        return replies_by(alloc, &mut *preserved, admitted);
     }
     match shared.second.try_lock() {
-        Some(mut preserved) => Some(replies_by(alloc, &mut *preserved, admitted)),
-        None => None,
+        Some(mut preserved) => replies_by(alloc, &mut *preserved, admitted),
+        None => Err(NoReplies::Busy),
     }
 }
 
@@ -242,24 +254,24 @@ fn is_look_over<R: Clock>(rt: &R, began: &Option<Instant>) -> bool {
 }
 
 /// Has a handler answer the lines of a body, and gives its replies. There are none where it gives up, and where neither
-/// handler is free for five seconds: so a thread is not held by what others ask of nodes that are silent.
+/// handler is free for `FREE_SECONDS`: so a thread is not held by what others ask of nodes that are silent.
 pub(crate) fn replies<D: Handler + Drop, R: Wait + Clock>(
     rt: &R,
     alloc: Global,
     shared: &SharedPage<D>,
     admitted: &Admitted<'_>,
-) -> Option<Vec<u8>>
-    ensures { IfSome result (λ out. IsWritten D.answers admitted.now.body.now out.items) }
+) -> Result<Vec<u8>, NoReplies>
+    ensures { IfOk result (λ out. IsWritten D.answers admitted.now.body.now out.items) }
 {
     let began = Instant::now(rt).ok();
     for _look in 0..FREE_LOOKS {
-        if let Some(found) = replies_now(alloc, shared, admitted) {
-            return found;
+        let found = replies_now(alloc, shared, admitted);
+        match found {
+            Err(NoReplies::Busy) if !is_look_over(rt, &began) => {
+                thread::sleep(rt, Duration::from_millis(FREE_MILLISECONDS));
+            }
+            _ => return found,
         }
-        if is_look_over(rt, &began) {
-            return None;
-        }
-        thread::sleep(rt, Duration::from_millis(FREE_MILLISECONDS));
     }
-    None
+    Err(NoReplies::Busy)
 }
