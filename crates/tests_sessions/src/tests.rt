@@ -14,5 +14,6 @@ mod loopback;
 mod mailbox;
 mod nodes;
 mod opening;
+mod reads;
 mod settling;
 mod talking;

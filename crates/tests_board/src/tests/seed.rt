@@ -60,6 +60,7 @@ fn hash_of(options: &Options) -> Option<u64> {
         Options::Send(_) => None,
         Options::Status(_) => None,
         Options::Page(_) => None,
+        Options::Log(_) => None,
         Options::Version => None,
     }
 }
