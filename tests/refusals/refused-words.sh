@@ -52,6 +52,7 @@ Commands:
   send     Sends the documents on the standard input to a node or a group, one a line, and prints its replies
   status   Asks every node of a group for its place, and prints a line for each
   page     Serves the live page of a group to browsers on this host
+  log      Prints the committed commands that a node's file keeps, one document a line, in order
   help     Print this message or the help of the given subcommand(s)
 
 Options:
@@ -96,18 +97,22 @@ Example: desk answer --node 1 --nodes 3 --domain desk.example --file node-1.db <
 
 serve_help="Runs one node of a group on the network of this host, with its state in a file
 
-Usage: desk serve --node <node> --nodes <nodes> --domain <domain> --port <port> --file <file>
+Usage: desk serve [OPTIONS] --node <node> --nodes <nodes> --domain <domain> --port <port> --file <file>
 
 Options:
-      --node <node>      The node's number, from 0
-      --nodes <nodes>    How many nodes the group has, 3 or 5
-      --domain <domain>  The desk's domain, under which it names incidents
-      --port <port>      The group's first port, from 1024 to 65000
-      --file <file>      The SQLite file that keeps the node's state, made where it is not there
-  -h, --help             Print help
+      --node <node>              The node's number, from 0
+      --nodes <nodes>            How many nodes the group has, 3 or 5
+      --domain <domain>          The desk's domain, under which it names incidents
+      --port <port>              The group's first port, from 1024 to 65000
+      --file <file>              The SQLite file that keeps the node's state, made where it is not there
+      --log                      Tells each change of the node in a line of JSON on standard error
+      --hosts <hosts>            The hosts of the nodes, in their order, with commas between; else 127.0.0.1
+      --key <key>                The file of the key of nodes, and of clients where they have none of their own
+      --client-key <client-key>  The file of the key of clients, where they have one of their own
+  -h, --help                     Print help
 
-Node I takes the other nodes at port PORT + I, and sessions at port PORT + 10 + I, all on 127.0.0.1.
-It ends with its standard input.
+Node I takes the other nodes at port PORT + I, and sessions at port PORT + 10 + I, on 127.0.0.1 or the
+I-th of --hosts, which wants a key where it is no loopback. It ends with its standard input.
 
 Example: desk serve --node 0 --nodes 3 --domain desk.example --port 4000 --file node-0.db"
 
@@ -131,29 +136,37 @@ send_help="Sends the documents on the standard input to a node or a group, one a
 Usage: desk send [OPTIONS] --port <port>
 
 Options:
-      --port <port>        The port of the node's sessions, from 1024 to 65014; with --nodes the group's first, to 65000
-      --nodes <nodes>      How many nodes the group has, 3 or 5; lines go to its primary, each until its final reply
-      --seconds <seconds>  With --nodes, for how long a line is asked again: from 1 to 3600 seconds, else 30
-  -h, --help               Print help
+      --port <port>              A node's port for sessions, 1024 to 65014; with --nodes the group's first, to 65000
+      --nodes <nodes>            How many nodes a group has, 3 or 5; a line goes to its primary until its final reply
+      --seconds <seconds>        With --nodes, for how long a line is asked again: from 1 to 3600 seconds, else 30
+      --host <host>              Without --nodes, the address or name of the node's host, else 127.0.0.1
+      --hosts <hosts>            The hosts of the nodes, in their order, with commas between; else 127.0.0.1
+      --key <key>                The file of the key of nodes, and of clients where they have none of their own
+      --client-key <client-key>  The file of the key of clients, where they have one of their own
+  -h, --help                     Print help
 
-The nodes are those of \`desk serve\` or \`desk cluster\` on this host. Where these were given --port PORT, the sessions
-of node I are at port PORT + 10 + I. With --nodes the port is PORT itself, and a line goes to one node after another
-until its final reply comes.
+The nodes are those of \`desk serve\` or \`desk cluster\`. Where these were given --port PORT, the sessions of node I
+are at port PORT + 10 + I of this host, or of --host or the I-th of --hosts. With --nodes the port is PORT itself, and
+a line goes to one node after another until its final reply comes.
 
 Examples: desk send --port 4010 < examples/first-incident.jsonl
           desk send --port 4000 --nodes 3 < examples/first-incident.jsonl"
 
 status_help="Asks every node of a group for its place, and prints a line for each
 
-Usage: desk status --port <port> --nodes <nodes>
+Usage: desk status [OPTIONS] --port <port> --nodes <nodes>
 
 Options:
-      --port <port>    The group's first port, from 1024 to 65000
-      --nodes <nodes>  How many nodes the group has, 3 or 5
-  -h, --help           Print help
+      --port <port>              The group's first port, from 1024 to 65000
+      --nodes <nodes>            How many nodes the group has, 3 or 5
+      --hosts <hosts>            The hosts of the nodes, in their order, with commas between; else 127.0.0.1
+      --key <key>                The file of the key of nodes, and of clients where they have none of their own
+      --client-key <client-key>  The file of the key of clients, where they have one of their own
+  -h, --help                     Print help
 
-The nodes are those of \`desk serve\` or \`desk cluster\` on this host, which were given --port PORT: node I is asked at
-port PORT + 10 + I. One that is silent for 3 seconds is down. Those that are up are asked once more at the end.
+The nodes are those of \`desk serve\` or \`desk cluster\`, which were given --port PORT: node I is asked at port
+PORT + 10 + I of this host, or of the I-th of --hosts. One that is silent for 3 seconds is down. Those that are up are
+asked once more at the end.
 The exit status is 0 where more than half of the nodes are at the greatest place that any node reported, and else 1.
 
 Example: desk status --port 4000 --nodes 3"
@@ -163,16 +176,34 @@ page_help="Serves the live page of a group to browsers on this host
 Usage: desk page [OPTIONS] --port <port> --nodes <nodes> --listen <listen>
 
 Options:
-      --port <port>        The group's first port, from 1024 to 65000
-      --nodes <nodes>      How many nodes the group has, 3 or 5
-      --listen <listen>    The port at which browsers come, from 1024 to 65535
-      --seconds <seconds>  For how long a command is asked again: from 1 to 3600 seconds, else 30
-  -h, --help               Print help
+      --port <port>              The group's first port, from 1024 to 65000
+      --nodes <nodes>            How many nodes the group has, 3 or 5
+      --listen <listen>          The port at which browsers come, from 1024 to 65535
+      --seconds <seconds>        For how long a command is asked again: from 1 to 3600 seconds, else 30
+      --hosts <hosts>            The hosts of the nodes, in their order, with commas between; else 127.0.0.1
+      --key <key>                The file of the key of nodes, and of clients where they have none of their own
+      --client-key <client-key>  The file of the key of clients, where they have one of their own
+  -h, --help                     Print help
 
-The nodes are those of \`desk serve\` or \`desk cluster\` on this host, which were given --port PORT. Browsers on this
-host open http://127.0.0.1:LISTEN/. Whoever may connect there may send commands. It ends with its standard input.
+The nodes are those of \`desk serve\` or \`desk cluster\`, on this host or at --hosts, which were given --port PORT.
+Browsers on this host open http://127.0.0.1:LISTEN/. Whoever may connect there may send commands. It ends with its
+standard input.
 
 Example: desk page --port 4000 --nodes 3 --listen 8080"
+
+log_help="Prints the committed commands that a node's file keeps, one document a line, in order
+
+Usage: desk log [OPTIONS] --file <file>
+
+Options:
+      --file <file>  The SQLite file of a node that is stopped, or a copy of it
+      --from <from>  The first place whose command is printed, else 1
+  -h, --help         Print help
+
+\`desk replay\` makes the same board of all of them. A file is only read, with the log beside it (FILE-wal). Where its
+log is full, FILE.1 follows, then FILE.2 and so on.
+
+Example: desk log --file node-0.db --from 1000"
 
 refused "$desk_help"
 for word in --help -h help; do refused "$desk_help" "$word"; done
@@ -192,6 +223,8 @@ for word in --help -h; do refused "$status_help" status "$word"; done
 refused "$status_help" help status
 for word in --help -h; do refused "$page_help" page "$word"; done
 refused "$page_help" help page
+for word in --help -h; do refused "$log_help" log "$word"; done
+refused "$log_help" help log
 
 desk='desk <COMMAND>'
 misused "$desk" "error: unrecognized subcommand 'replays'
@@ -338,6 +371,16 @@ for port in 0 1023 65536 -8080; do bad_listen "$port" "$port is not in 1024..=65
 bad_listen http 'invalid digit found in string'
 bad_listen '' 'cannot parse integer from empty string'
 
+misused 'desk log --file <file>' 'error: the following required arguments were not provided:
+  --file <file>' log
+bad_from() {
+    refused "error: invalid value '$1' for '--from <from>': $2
+
+For more information, try '--help'." log --file node-0.db "--from=$1"
+}
+for place in 0 -1 1000000000000; do bad_from "$place" "$place is not in 1..=999999999999"; done
+bad_from first 'invalid digit found in string'
+
 # ports that none of the five takes; the first of the words is the greatest that it takes
 bad_port() {
     local port=$1 why=$2 most=$3
@@ -377,7 +420,7 @@ bad_seconds 1.5 'invalid digit found in string'
 bad_seconds '' 'cannot parse integer from empty string'
 
 # the version, which docs/RUNNING.md shows, also where a word comes behind
-grep -m 1 -E '^desk [0-9.]+ \(rattle-kit-' docs/RUNNING.md >"$folder/wanted"
+grep -m 1 -oE 'desk [0-9.]+ \(rattle-kit-[0-9a-z]+\)' docs/RUNNING.md >"$folder/wanted"
 versioned() {
     local status=0
     "$program" "$@" <examples/first-incident.jsonl >"$folder/out" 2>"$folder/err" || status=$?

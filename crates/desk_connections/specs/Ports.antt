@@ -1,5 +1,5 @@
 -- The ports of nodes, and which of them a refusal names.
-use Rattle.std.specs.Prelude.{◌≡◌, ◌⊎◌, ◌+◌, ◌<◌, ℕ, ⊤, Option, IfSome, option_map}
+use Rattle.std.specs.Prelude.{◌≡◌, ◌⊎◌, ◌+◌, ◌<◌, ℕ, ⊤, List, [], ◌∷◌, Option, IfSome, option_map}
 use Rattle.desk_admission.specs.declared.endpoint.Endpoint.{Endpoint}
 use Rattle.desk_admission.specs.declared.endpoint.Role.TheVariants as roles
 use Rattle.desk_admission.specs.declared.streams.KeyedPort.{KeyedPort}
@@ -47,3 +47,8 @@ abbrev pub RefusesOneOf : (ℕ → Type 0) → PortRefused → Type 0
 RefusesOneOf ports (InUse port) = ports port
 RefusesOneOf ports (NotBound port) = ports port
 RefusesOneOf ports WantOfMemory = ⊤
+
+-- These are bound to the ports of nodes, one node after the other, from the one with this number on.
+abbrev pub ArePortsFrom : ℕ → ℕ → List NodePorts → Type 0
+ArePortsFrom first id [] = ⊤
+ArePortsFrom first id (ports ∷ more) = HasPortsOf first id ports × ArePortsFrom first (id + 1) more

@@ -5,17 +5,21 @@ ghost use Rattle.desk_connections.specs.Admitted.{HasShownKey};
 ghost use Rattle.desk_mailbox.specs.Ends.{put_by};
 ghost use Rattle.desk_peers.specs.Incoming.{HasPutOnlyOf};
 
+use crate::doors::{NotedInput, WatchedDoor};
 use crate::limits::{
     KEYED_PEER_SECONDS, PAUSE_MILLISECONDS, PEER_SECONDS, PROOF_SECONDS, SESSION_SECONDS,
     WRITE_SECONDS,
 };
+use crate::links::why_not_admitted;
 use desk_admission::{AdmittedStream, KeyedPort, NONCE_BYTES, admit, drawn_nonce};
 use desk_eido::want_of_memory_line;
+use desk_events::Why;
 use desk_mailbox::{Item, Sender};
 use desk_output::write_text;
 use desk_peers::take_packets;
 use desk_published::{BoardName, BoardReader};
 use desk_sessions::{NoGate, Session, Wire, serve_session};
+use desk_types::Refusal;
 use std::alloc::Global;
 use std::io::{Read, Write};
 use std::net::{TcpListener, TcpStream};
@@ -50,18 +54,28 @@ fn nonce_for<R: RandomSource>(rt: &R, stream: &TcpStream) -> Option<[u8; NONCE_B
     Some(nonce)
 }
 
+/// Whether a session ended at the first line of a browser: by a fault of reading, where no read failed.
+fn is_of_browser<I: Read>(input: &NotedInput<I>, outcome: &Result<(), Refusal>) -> bool {
+    !input.has_failed && matches!(outcome, Err(Refusal::ReadFault))
+}
+
 /// Serves one session. Where there is no memory for it, that is told.
-fn serve_lines<B: BoardName, I: Read, O: Write, R: Wait>(
+fn serve_lines<B: BoardName, I: Read + Drop, O: Write, R: Wait>(
     rt: &R,
     alloc: Global,
-    input: &mut I,
+    door: &WatchedDoor,
+    input: I,
     output: &mut O,
     wire: Wire<B>,
     reader: BoardReader<B>,
 ) -> (Wire<B>, BoardReader<B>) {
     match Session::new(alloc, wire, reader) {
         Ok(session) => {
-            let (session, outcome) = serve_session(rt, alloc, input, output, session, &NoGate);
+            let mut input = NotedInput::new(input);
+            let (session, outcome) = serve_session(rt, alloc, &mut input, output, session, &NoGate);
+            if is_of_browser(&input, &outcome) {
+                door.tell_refused(rt, Why::Browser);
+            }
             drop(outcome);
             let Session {
                 line,
@@ -81,18 +95,20 @@ fn serve_lines<B: BoardName, I: Read, O: Write, R: Wait>(
 fn serve_admitted<B: BoardName, I: Read + Drop, O: Write + Drop, R: Wait>(
     rt: &R,
     alloc: Global,
+    door: &WatchedDoor,
     stream: AdmittedStream<I, O>,
     wire: Wire<B>,
     reader: BoardReader<B>,
 ) -> (Wire<B>, BoardReader<B>) {
-    let (mut input, mut output) = stream.into_ends();
-    serve_lines(rt, alloc, &mut input, &mut output, wire, reader)
+    let (input, mut output) = stream.into_ends();
+    serve_lines(rt, alloc, door, input, &mut output, wire, reader)
 }
 
 /// Serves a connection to a port with a key as one session, where its other end shows that it holds the key.
 fn serve_keyed<B: BoardName, I: Read + Drop, O: Write + Drop, L: LimitedReads, R: Wait>(
     rt: &R,
     alloc: Global,
+    door: &WatchedDoor,
     ends: (I, O),
     limits: &L,
     keyed: &KeyedPort,
@@ -104,13 +120,16 @@ fn serve_keyed<B: BoardName, I: Read + Drop, O: Write + Drop, L: LimitedReads, R
 {
     let stream = match admit(alloc, ends.0, ends.1, keyed, nonce) {
         Ok(stream) => stream,
-        Err(_) => return parts,
+        Err(fault) => {
+            door.tell_refused(rt, why_not_admitted(fault));
+            return parts;
+        }
     };
     if !limits.limit_reads(SESSION_SECONDS) {
         return parts;
     }
     let (wire, reader) = parts;
-    serve_admitted(rt, alloc, stream, wire, reader)
+    serve_admitted(rt, alloc, door, stream, wire, reader)
 }
 
 /// Serves a connection as one session, once it is admitted where the port has a key. Then the connection is closed.
@@ -118,30 +137,33 @@ fn serve_stream<B: BoardName, R: Wait + RandomSource>(
     rt: &R,
     alloc: Global,
     stream: &TcpStream,
-    keyed: &Option<KeyedPort>,
+    door: &WatchedDoor,
     wire: Wire<B>,
     reader: BoardReader<B>,
 ) -> (Wire<B>, BoardReader<B>) {
     // each reply goes out at once; where the host can not do that, it goes out late
     let _ = stream.set_nodelay(true);
-    match keyed {
+    match &door.keyed {
         None => {
             let _ = stream.set_read_timeout(Some(Duration::from_secs(SESSION_SECONDS)));
-            let mut input = stream;
             let mut output = stream;
-            serve_lines(rt, alloc, &mut input, &mut output, wire, reader)
+            serve_lines(rt, alloc, door, stream, &mut output, wire, reader)
         }
         Some(keyed) => match nonce_for(rt, stream) {
             Some(nonce) => serve_keyed(
                 rt,
                 alloc,
+                door,
                 (stream, stream),
                 stream,
                 keyed,
                 &nonce,
                 (wire, reader),
             ),
-            None => (wire, reader),
+            None => {
+                door.tell_refused(rt, Why::Handshake);
+                (wire, reader)
+            }
         },
     }
 }
@@ -151,7 +173,7 @@ pub(crate) fn serve_sessions<B: BoardName, R: Wait + Clock + RandomSource>(
     rt: &R,
     alloc: Global,
     listener: &TcpListener,
-    keyed: &Option<KeyedPort>,
+    door: &WatchedDoor,
     wire: Wire<B>,
     reader: BoardReader<B>,
 ) {
@@ -160,10 +182,17 @@ pub(crate) fn serve_sessions<B: BoardName, R: Wait + Clock + RandomSource>(
         match stream {
             Ok(stream) => {
                 let (wire, reader) = parts;
-                parts = serve_stream(rt, alloc, &stream, keyed, wire, reader);
+                parts = serve_stream(rt, alloc, &stream, door, wire, reader);
             }
             Err(_) => thread::sleep(rt, Duration::from_millis(PAUSE_MILLISECONDS)),
         }
+    }
+}
+
+/// Tells that who connected was refused, where bytes came that are no packet.
+fn tell_no_packet<R: Wait>(rt: &R, door: &WatchedDoor, outcome: &Result<(), Refusal>) {
+    if matches!(outcome, Err(Refusal::FrameFault)) {
+        door.tell_refused(rt, Why::Packet);
     }
 }
 
@@ -171,6 +200,7 @@ pub(crate) fn serve_sessions<B: BoardName, R: Wait + Clock + RandomSource>(
 fn take_admitted<I: Read + Drop, O: Write + Drop, R: Wait>(
     rt: &R,
     alloc: Global,
+    door: &WatchedDoor,
     stream: AdmittedStream<I, O>,
     sender: Sender<Item>,
 ) -> Sender<Item>
@@ -179,6 +209,7 @@ fn take_admitted<I: Read + Drop, O: Write + Drop, R: Wait>(
     let from = stream.from_node();
     let (mut input, output) = stream.into_ends();
     let (sender, outcome) = take_packets(rt, alloc, Some(from), &mut input, sender);
+    tell_no_packet(rt, door, &outcome);
     drop(outcome);
     drop(output);
     sender
@@ -188,6 +219,7 @@ fn take_admitted<I: Read + Drop, O: Write + Drop, R: Wait>(
 fn take_keyed<I: Read + Drop, O: Write + Drop, L: LimitedReads, R: Wait>(
     rt: &R,
     alloc: Global,
+    door: &WatchedDoor,
     ends: (I, O),
     limits: &L,
     keyed: &KeyedPort,
@@ -199,12 +231,15 @@ fn take_keyed<I: Read + Drop, O: Write + Drop, L: LimitedReads, R: Wait>(
 {
     let admitted = match admit(alloc, ends.0, ends.1, keyed, nonce) {
         Ok(admitted) => admitted,
-        Err(_) => return sender,
+        Err(fault) => {
+            door.tell_refused(rt, why_not_admitted(fault));
+            return sender;
+        }
     };
     if !limits.limit_reads(KEYED_PEER_SECONDS) {
         return sender;
     }
-    take_admitted(rt, alloc, admitted, sender)
+    take_admitted(rt, alloc, door, admitted, sender)
 }
 
 /// Takes the packets of a connection, once it is admitted where the port has a key. It ends at the first bytes that are
@@ -213,20 +248,33 @@ fn take_stream<R: Wait + RandomSource>(
     rt: &R,
     alloc: Global,
     stream: &TcpStream,
-    keyed: &Option<KeyedPort>,
+    door: &WatchedDoor,
     sender: Sender<Item>,
 ) -> Sender<Item> {
-    match keyed {
+    match &door.keyed {
         None => {
             let _ = stream.set_read_timeout(Some(Duration::from_secs(PEER_SECONDS)));
             let mut reader = stream;
             let (sender, outcome) = take_packets(rt, alloc, None, &mut reader, sender);
+            tell_no_packet(rt, door, &outcome);
             drop(outcome);
             sender
         }
         Some(keyed) => match nonce_for(rt, stream) {
-            Some(nonce) => take_keyed(rt, alloc, (stream, stream), stream, keyed, &nonce, sender),
-            None => sender,
+            Some(nonce) => take_keyed(
+                rt,
+                alloc,
+                door,
+                (stream, stream),
+                stream,
+                keyed,
+                &nonce,
+                sender,
+            ),
+            None => {
+                door.tell_refused(rt, Why::Handshake);
+                sender
+            }
         },
     }
 }
@@ -236,13 +284,13 @@ pub(crate) fn take_connections<R: Wait + Clock + RandomSource>(
     rt: &R,
     alloc: Global,
     listener: &TcpListener,
-    keyed: &Option<KeyedPort>,
+    door: &WatchedDoor,
     sender: Sender<Item>,
 ) {
     let mut sender = sender;
     for stream in listener.incoming() {
         match stream {
-            Ok(stream) => sender = take_stream(rt, alloc, &stream, keyed, sender),
+            Ok(stream) => sender = take_stream(rt, alloc, &stream, door, sender),
             Err(_) => thread::sleep(rt, Duration::from_millis(PAUSE_MILLISECONDS)),
         }
     }

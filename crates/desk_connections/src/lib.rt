@@ -3,6 +3,7 @@
 #![tactic(auto)]
 
 mod connections;
+mod doors;
 mod ends;
 mod limits;
 mod links;

@@ -3,7 +3,8 @@
 use crate::limits::{
     IDLE_LINK_SECONDS, LINK_SECONDS, PROOF_SECONDS, REST_MILLISECONDS, WRITE_SECONDS,
 };
-use desk_admission::{KeyedPort, connect_within, dial, drawn_nonce};
+use desk_admission::{KeyedPort, NotAdmitted, connect_within, dial, drawn_nonce};
+use desk_events::{Event, EventLog, Why};
 use desk_peers::{Connect, PeerQueue, send_packets};
 use desk_records::Sealed;
 use std::alloc::Global;
@@ -26,12 +27,100 @@ pub struct PeerAddress {
     pub from: u8,
 }
 
+/// How a link is.
+#[derive(Clone, Copy, PartialEq, Eq)]
+enum LinkState {
+    Up,
+    Down(Why),
+}
+
+/// What is told of the link to a peer.
+pub(crate) struct LinkNews {
+    log: EventLog,
+    /// The peer's number.
+    to: u8,
+    /// What was told of the link last, where anything was.
+    told: Option<LinkState>,
+    /// Whether a write to the connection failed, which is told at the next try to connect: there is none at the end of
+    /// the node.
+    was_broken: bool,
+}
+
+// It is written out, so that a caller does not prove again how each part is dropped.
+impl Drop for LinkNews {
+    fn drop(self) {
+        let LinkNews {
+            log: _,
+            to: _,
+            told: _,
+            was_broken: _,
+        } = self;
+    }
+}
+
+impl LinkNews {
+    pub(crate) fn new(log: EventLog, to: u8) -> LinkNews {
+        LinkNews {
+            log,
+            to,
+            told: None,
+            was_broken: false,
+        }
+    }
+
+    /// Tells how the link is, where it was not told so last.
+    fn tell<R: Wait>(&mut self, rt: &R, state: LinkState) {
+        if self.told == Some(state) {
+            return;
+        }
+        self.told = Some(state);
+        let event = match state {
+            LinkState::Up => Event::LinkUp { to: self.to },
+            LinkState::Down(why) => Event::LinkDown { to: self.to, why },
+        };
+        self.log.tell(rt, event);
+    }
+
+    /// Notes that a write to the connection failed.
+    fn note_broken(&mut self) {
+        self.was_broken = true;
+    }
+
+    /// Tells what a try to connect came to, and gives the connection.
+    fn tell_tried<R: Wait, T>(&mut self, rt: &R, tried: Result<T, Why>) -> Option<T> {
+        if self.was_broken {
+            self.was_broken = false;
+            self.tell(rt, LinkState::Down(Why::Broken));
+        }
+        match tried {
+            Ok(connection) => {
+                self.tell(rt, LinkState::Up);
+                Some(connection)
+            }
+            Err(why) => {
+                self.tell(rt, LinkState::Down(why));
+                None
+            }
+        }
+    }
+}
+
+/// Why who dials a port, or is dialled, is refused.
+pub(crate) fn why_not_admitted(fault: NotAdmitted) -> Why {
+    match fault {
+        NotAdmitted::Broken => Why::Handshake,
+        NotAdmitted::OtherEndpoint => Why::Endpoint,
+        NotAdmitted::NoProof => Why::Key,
+    }
+}
+
 /// A peer without a key, and what connects to it.
 #[derive(Drop)]
 pub(crate) struct OpenPeer<R: Drop> {
     pub(crate) rt: R,
     pub(crate) host: String,
     pub(crate) port: u16,
+    pub(crate) news: LinkNews,
 }
 
 /// A new connection to a peer, on which each packet goes out at once.
@@ -41,11 +130,15 @@ fn open<R: Net<Stream = TcpStream>>(rt: &R, host: &str, port: u16) -> io::Result
     Ok(stream)
 }
 
-impl<R: Net<Stream = TcpStream> + Drop> Connect for OpenPeer<R> {
+impl<R: Net<Stream = TcpStream> + Wait + Drop> Connect for OpenPeer<R> {
     type Connection = TcpStream;
 
     fn connect(&mut self) -> Option<TcpStream> {
-        open(&self.rt, self.host.as_str(), self.port).ok()
+        let tried = match open(&self.rt, self.host.as_str(), self.port) {
+            Ok(stream) => Ok(stream),
+            Err(_) => Err(Why::Connect),
+        };
+        self.news.tell_tried(&self.rt, tried)
     }
 
     // A peer without a key is on this host, to which no link is cut.
@@ -53,8 +146,10 @@ impl<R: Net<Stream = TcpStream> + Drop> Connect for OpenPeer<R> {
         true
     }
 
+    // One that is kept is closed where a write failed, or at the end of the node.
     fn close(&mut self, connection: TcpStream) {
-        drop(connection)
+        drop(connection);
+        self.news.note_broken();
     }
 }
 
@@ -105,6 +200,7 @@ pub(crate) struct KeyedPeer<R> {
     age: Option<Age>,
     /// When the last try to connect failed, if it did.
     failed: Option<Instant>,
+    pub(crate) news: LinkNews,
 }
 
 // It is written out, so that a caller does not prove again how each part is dropped.
@@ -118,33 +214,41 @@ impl<R: Drop> Drop for KeyedPeer<R> {
             from: _,
             age: _,
             failed: _,
+            news: _,
         } = self;
     }
 }
 
 impl<R: Net<Stream = TcpStream> + RandomSource> KeyedPeer<R> {
+    /// A new connection, before its handshake: what comes of it, and what goes to it.
+    fn reach(&self) -> io::Result<(TcpStream, TcpStream)> {
+        let stream = open(&self.rt, self.host.as_str(), self.keyed.endpoint.port)?;
+        stream.set_read_timeout(Some(Duration::from_secs(PROOF_SECONDS)))?;
+        stream.set_write_timeout(Some(Duration::from_secs(WRITE_SECONDS)))?;
+        let input = stream.try_clone()?;
+        Ok((input, stream))
+    }
+
     /// A new connection, after a handshake.
-    fn open(&self) -> Option<Sealed<TcpStream>> {
-        let stream = open(&self.rt, self.host.as_str(), self.keyed.endpoint.port).ok()?;
-        stream
-            .set_read_timeout(Some(Duration::from_secs(PROOF_SECONDS)))
-            .ok()?;
-        stream
-            .set_write_timeout(Some(Duration::from_secs(WRITE_SECONDS)))
-            .ok()?;
-        let input = stream.try_clone().ok()?;
-        let nonce = drawn_nonce(&self.rt).ok()?;
+    fn open(&self) -> Result<Sealed<TcpStream>, Why> {
+        let Ok((input, stream)) = self.reach() else {
+            return Err(Why::Connect);
+        };
+        let nonce = match drawn_nonce(&self.rt) {
+            Ok(nonce) => nonce,
+            Err(fault) => return Err(why_not_admitted(fault)),
+        };
         match dial(self.alloc, input, stream, &self.keyed, self.from, &nonce) {
             Ok((opened, sealed)) => {
                 drop(opened);
-                Some(sealed)
+                Ok(sealed)
             }
-            Err(_) => None,
+            Err(fault) => Err(why_not_admitted(fault)),
         }
     }
 }
 
-impl<R: Net<Stream = TcpStream> + RandomSource + Clock + Drop> Connect for KeyedPeer<R> {
+impl<R: Net<Stream = TcpStream> + RandomSource + Clock + Wait + Drop> Connect for KeyedPeer<R> {
     type Connection = Sealed<TcpStream>;
 
     fn connect(&mut self) -> Option<Sealed<TcpStream>> {
@@ -152,12 +256,12 @@ impl<R: Net<Stream = TcpStream> + RandomSource + Clock + Drop> Connect for Keyed
             return None;
         }
         self.age = age_now(&self.rt, None);
-        let opened = self.open();
-        self.failed = match &opened {
-            Some(_) => None,
-            None => Instant::now(&self.rt).ok(),
+        let tried = self.open();
+        self.failed = match &tried {
+            Ok(_) => None,
+            Err(_) => Instant::now(&self.rt).ok(),
         };
-        opened
+        self.news.tell_tried(&self.rt, tried)
     }
 
     fn keeps(&mut self) -> bool {
@@ -165,8 +269,12 @@ impl<R: Net<Stream = TcpStream> + RandomSource + Clock + Drop> Connect for Keyed
         self.age.is_some()
     }
 
+    // One that was used for long enough, or not for too long, has no age any more, and is made anew.
     fn close(&mut self, connection: Sealed<TcpStream>) {
-        drop(connection)
+        drop(connection);
+        if self.age.is_some() {
+            self.news.note_broken();
+        }
     }
 }
 
@@ -183,7 +291,9 @@ pub(crate) fn send_to<R: Net<Stream = TcpStream> + RandomSource + Clock + Wait +
     alloc: Global,
     queue: PeerQueue,
     address: PeerAddress,
+    log: EventLog,
 ) {
+    let news = LinkNews::new(log, queue.node);
     let PeerAddress {
         host,
         port,
@@ -200,6 +310,7 @@ pub(crate) fn send_to<R: Net<Stream = TcpStream> + RandomSource + Clock + Wait +
                 rt: handle,
                 host,
                 port,
+                news,
             },
         ),
         Some(keyed) => {
@@ -211,6 +322,7 @@ pub(crate) fn send_to<R: Net<Stream = TcpStream> + RandomSource + Clock + Wait +
                 from,
                 age: None,
                 failed: None,
+                news,
             };
             send_queue(rt, alloc, queue, peer)
         }

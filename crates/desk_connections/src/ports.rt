@@ -1,11 +1,13 @@
 //! The ports of nodes.
 
-ghost use Rattle.std.specs.Prelude.{◌≡◌, ◌+◌, ◌<◌, ◌≤◌, ◌^◌, length, IfSome, IfOk, IfErr};
+ghost use Rattle.std.specs.Prelude.{◌≡◌, ◌+◌, ◌<◌, ◌≤◌, ◌^◌, ◌++◌, ◌∷◌, [], length, IfSome, IfOk, IfErr};
 ghost use Rattle.desk_types.specs.declared.limits.TheConstants.{SESSION_PORTS};
 ghost use Rattle.desk_connections.specs.Ports.{port_key, BindsPortsOf, HasPortsOf, IsPortOf, IsPortOfGroup};
-ghost use Rattle.desk_connections.specs.Ports.{RefusesOneOf};
+ghost use Rattle.desk_connections.specs.Ports.{ArePortsFrom, RefusesOneOf};
+ghost use Rattle.desk_connections.specs.declared.ports.PortRefused.TheVariants as refusals;
 
 use desk_admission::{Endpoint, GroupAddress, KeyedPort, LOOPBACK};
+use desk_events::EventLog;
 use desk_key::Key;
 use desk_types::{Domain, Owner, WantOfMemory, peer_port, session_port};
 use std::alloc::Global;
@@ -169,6 +171,18 @@ impl NodePorts {
     }
 }
 
+/// The ports of some nodes, with those of one more at the end.
+fn with_ports(all: Vec<NodePorts>, ports: NodePorts) -> Result<Vec<NodePorts>, PortRefused>
+    ensures ok { IfOk result (λ more. more.items ≡ all.items ++ ports ∷ []) }
+    ensures err { IfErr result (λ refused. refused ≡ refusals.WantOfMemory) }
+{
+    let mut all = all;
+    if all.push(ports).is_err() {
+        return Err(PortRefused::WantOfMemory);
+    }
+    Ok(all)
+}
+
 /// Binds the ports of all nodes of a group, node by node, or tells the first that is refused.
 pub fn bind_group<R: Net<Listener = TcpListener, Stream = TcpStream>>(
     rt: &R,
@@ -177,14 +191,14 @@ pub fn bind_group<R: Net<Listener = TcpListener, Stream = TcpStream>>(
     n: u8,
 ) -> Result<Vec<NodePorts>, PortRefused>
     ensures count { IfOk result (λ all. length all.items ≡ n) }
+    // They stand in the order of the nodes.
+    ensures order { first + n + SESSION_PORTS ≤ 2 ^ 16 → IfOk result (λ all. ArePortsFrom first 0 all.items) }
     ensures err { first + n + SESSION_PORTS ≤ 2 ^ 16 → IfErr result (RefusesOneOf (IsPortOfGroup first n)) }
 {
     let mut all = Vec::new(alloc);
     for id in 0..n {
         let ports = NodePorts::bind(rt, LOOPBACK, first, id)?;
-        if all.push(ports).is_err() {
-            return Err(PortRefused::WantOfMemory);
-        }
+        all = with_ports(all, ports)?;
     }
     Ok(all)
 }
@@ -196,19 +210,23 @@ pub struct NodeSetup {
     /// How the other nodes are reached.
     pub address: GroupAddress,
     pub ports: NodePorts,
+    /// Where its events are told.
+    pub log: EventLog,
 }
 
 impl NodeSetup {
-    /// The node of this owner, in a group with this address.
-    pub fn new(owner: Owner, address: GroupAddress, ports: NodePorts) -> NodeSetup
+    /// The node of this owner, in a group with this address, which tells its events there.
+    pub fn new(owner: Owner, address: GroupAddress, ports: NodePorts, log: EventLog) -> NodeSetup
         ensures owner { result.owner ≡ owner }
         ensures address { result.address ≡ address }
         ensures ports { result.ports ≡ ports }
+        ensures log { result.log ≡ log }
     {
         NodeSetup {
             owner,
             address,
             ports,
+            log,
         }
     }
 }

@@ -2,11 +2,13 @@
 //! the end of the keeper.
 
 use crate::connections::{serve_sessions, take_connections};
+use crate::doors::WatchedDoor;
 use crate::ends::EndFlag;
 use crate::links::{PeerAddress, send_to};
 use crate::ports::NodePorts;
 use crate::runtime::NodeRuntime;
 use crate::ticks::tick;
+use desk_events::{Door, EventLog};
 use desk_mailbox::{Item, Sender};
 use desk_peers::PeerQueue;
 use desk_published::{BoardName, BoardReader};
@@ -49,17 +51,19 @@ pub fn start_session<B: BoardName + Send + Sync + 'static, R: NodeRuntime>(
     ports: &NodePorts,
     wire: Wire<B>,
     reader: BoardReader<B>,
+    log: EventLog,
 ) -> Result<(), WantOfMemory> {
     let handle = *rt;
     let Ok(listener) = shared(&ports.sessions.listener) else {
         drop(wire);
         drop(reader);
+        drop(log);
         return Err(WantOfMemory);
     };
-    let keyed = ports.sessions.copied_key();
+    let door = WatchedDoor::new(ports.sessions.copied_key(), log, Door::Sessions);
     detach(thread::spawn(
         rt,
-        move || serve_sessions(&handle, alloc, &listener, &keyed, wire, reader),
+        move || serve_sessions(&handle, alloc, &listener, &door, wire, reader),
     ))
 }
 
@@ -71,13 +75,14 @@ pub fn start_peer<R: NodeRuntime>(
     alloc: Global,
     ports: &NodePorts,
     sender: Sender<Item>,
+    log: EventLog,
 ) -> Result<(), WantOfMemory> {
     let handle = *rt;
     let listener = shared(&ports.peers.listener)?;
-    let keyed = ports.peers.copied_key();
+    let door = WatchedDoor::new(ports.peers.copied_key(), log, Door::Peers);
     detach(thread::spawn(
         rt,
-        move || take_connections(&handle, alloc, &listener, &keyed, sender),
+        move || take_connections(&handle, alloc, &listener, &door, sender),
     ))
 }
 
@@ -88,9 +93,10 @@ pub fn start_link<R: NodeRuntime>(
     alloc: Global,
     address: PeerAddress,
     queue: PeerQueue,
+    log: EventLog,
 ) -> Result<(), WantOfMemory> {
     let handle = *rt;
-    detach(thread::spawn(rt, move || send_to(&handle, alloc, queue, address)))
+    detach(thread::spawn(rt, move || send_to(&handle, alloc, queue, address, log)))
 }
 
 /// Starts a thread that puts a tick every 20 milliseconds, and a stop once the node is to end. Err where the host

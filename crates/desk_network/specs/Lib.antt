@@ -2,3 +2,4 @@ pub mod Ends
 pub mod Putting
 pub mod Queued
 pub mod QueuedInOrder
+pub mod Watched

@@ -9,6 +9,7 @@ use crate::node::{NodeStart, start_node};
 use crate::serving::tell_ready;
 use desk_admission::GroupAddress;
 use desk_connections::{EndFlag, GroupSetup, NodePorts, NodeRuntime, end_with_input};
+use desk_events::EventLog;
 use desk_log::MemoryStore;
 use desk_types::{Owner, Refusal, WantOfMemory};
 use std::alloc::Global;
@@ -34,6 +35,7 @@ fn start_new<R: NodeRuntime>(
         ports,
         store: MemoryStore::new(alloc),
         ends,
+        log: EventLog::none(),
     };
     start_node(rt, alloc, start)
 }

@@ -6,6 +6,8 @@ ghost use Rattle.desk_types.specs.Lists.{others_below};
 ghost use Rattle.desk_types.specs.Refusal.{IsStoreRefusal};
 ghost use Rattle.desk_network.specs.Ends.{HasRunningStore};
 
+use crate::catching_up::CatchingUp;
+use desk_events::EventLog;
 use desk_log::StateStore;
 use desk_peers::{PeerQueue, PeerQueues, open_queues};
 use desk_published::BoardName;
@@ -29,12 +31,17 @@ pub struct NodeEnd<S> {
 /// a node is some of the packets that go to it, in order.
 pub struct QueuedPackets<W: Wait + Drop> {
     queues: PeerQueues<W>,
+    /// Sees each packet before it is put.
+    catching_up: CatchingUp<W>,
 }
 
 // It is written out, so that a caller does not prove again how each part is dropped.
 impl<W: Wait + Drop> Drop for QueuedPackets<W> {
     fn drop(self) {
-        let QueuedPackets { queues: _ } = self;
+        let QueuedPackets {
+            queues: _,
+            catching_up: _,
+        } = self;
     }
 }
 
@@ -45,6 +52,7 @@ impl<W: Wait + Drop> Out for QueuedPackets<W> {
     ghost takes = { λ old packets new. HasQueued old.queues packets new.queues };
 
     fn hand(&mut self, to: u8, packet: Packet) {
+        self.catching_up.see(&packet);
         let _ = self.queues.put(to, packet);
     }
 
@@ -102,6 +110,7 @@ pub(crate) fn start_keeper<
     id: u8,
     n: u8,
     keeper: Keeper<B, S>,
+    log: EventLog,
 ) -> Result<(KeeperThread<S>, Vec<PeerQueue>), WantOfMemory>
     requires group { IsGroup n }
     requires id { id < n }
@@ -109,12 +118,16 @@ pub(crate) fn start_keeper<
     ensures nodes { IfOk result (λ both. map (λ q. q.node) both.1.items ≡ others_below id n) }
 {
     let handle = *rt;
+    let catching_up = CatchingUp::new(handle, log);
     let guard = KeeperGuard::new(alloc, keeper, handle)?;
     let Ok((queues, takers)) = open_queues(handle, alloc, id, n) else {
         drop(guard);
         return Err(WantOfMemory);
     };
-    let out = QueuedPackets { queues };
+    let out = QueuedPackets {
+        queues,
+        catching_up,
+    };
     match thread::spawn_with(rt, EndsByStore, move || keep(&handle, guard, out)) {
         Ok(thread) => Ok((thread, takers)),
         Err(refused) => {

@@ -2,11 +2,13 @@
 //! nodes and for its ticks.
 #![tactic(auto)]
 
+mod catching_up;
 mod group;
 mod keeping;
 pub mod laws;
 mod node;
 mod serving;
+mod watched_store;
 
 pub use group::serve_group;
 pub use keeping::{NodeEnd, QueuedPackets};

@@ -1,6 +1,7 @@
 //! A node and its threads.
 
-ghost use Rattle.std.specs.Prelude.{◌≡◌, ◌<◌, false};
+ghost use Rattle.std.specs.Prelude.{◌≡◌, ◌<◌, ◌+◌, ◌^◌, false, IfOk, IfSome, string_bytes};
+ghost use Rattle.desk_admission.specs.Hosts.{host_of};
 ghost use Rattle.desk_types.specs.Group.{IsGroup};
 
 use crate::keeping::{KeeperThread, start_keeper};
@@ -9,6 +10,7 @@ use desk_connections::{
     EndFlag, NodePorts, NodeRuntime, PeerAddress, start_link, start_peer, start_session,
     start_timer,
 };
+use desk_events::EventLog;
 use desk_log::StateStore;
 use desk_mailbox::{Item, Sender};
 use desk_peers::PeerQueue;
@@ -28,6 +30,8 @@ pub(crate) struct NodeStart<S> {
     /// Holds its state.
     pub(crate) store: S,
     pub(crate) ends: EndFlag,
+    /// Where its events are told.
+    pub(crate) log: EventLog,
 }
 
 /// Starts the threads that serve sessions.
@@ -37,6 +41,7 @@ fn start_sessions<B: BoardName + Send + Sync + 'static, R: NodeRuntime>(
     ports: &NodePorts,
     senders: &mut Vec<Sender<Item>>,
     sessions: Vec<SessionEnds<B>>,
+    log: &EventLog,
 ) -> Result<(), WantOfMemory> {
     for SessionEnds { words, reader } in sessions {
         let Some(sender) = senders.pop() else {
@@ -46,7 +51,7 @@ fn start_sessions<B: BoardName + Send + Sync + 'static, R: NodeRuntime>(
             sender,
             words: KeeperWords::new(words),
         };
-        start_session(rt, alloc, ports, wire, reader)?;
+        start_session(rt, alloc, ports, wire, reader, log.share()?)?;
     }
     Ok(())
 }
@@ -59,15 +64,16 @@ fn start_around<B: BoardName + Send + Sync + 'static, R: NodeRuntime>(
     mut senders: Vec<Sender<Item>>,
     sessions: Vec<SessionEnds<B>>,
     ends: EndFlag,
+    log: &EventLog,
 ) -> Result<(), WantOfMemory> {
     // the first senders are the sessions', in their order
     senders.reverse();
-    start_sessions(rt, alloc, ports, &mut senders, sessions)?;
+    start_sessions(rt, alloc, ports, &mut senders, sessions, log)?;
     for _ in 0..PEERS {
         let Some(sender) = senders.pop() else {
             return Err(WantOfMemory);
         };
-        start_peer(rt, alloc, ports, sender)?;
+        start_peer(rt, alloc, ports, sender, log.share()?)?;
     }
     let Some(timer) = senders.pop() else {
         return Err(WantOfMemory);
@@ -87,7 +93,15 @@ struct Dialler {
 
 impl Dialler {
     /// Where another node takes packets.
-    fn peer(&self, alloc: Global, node: u8) -> Result<PeerAddress, WantOfMemory> {
+    fn peer(&self, alloc: Global, node: u8) -> Result<PeerAddress, WantOfMemory>
+        ensures host { IfOk result (λ peer.
+            string_bytes peer.host ≡ host_of self.now.address.hosts.text node) }
+        ensures port { self.now.address.first + node < 2 ^ 16 →
+            IfOk result (λ peer. peer.port ≡ self.now.address.first + node) }
+        ensures keyed { IfOk result (λ peer. IfSome peer.keyed (λ keyed.
+            (keyed.endpoint.node ≡ node) × (keyed.endpoint.port ≡ peer.port))) }
+        ensures from { IfOk result (λ peer. peer.from ≡ self.now.from) }
+    {
         let port = peer_port(self.address.first, node);
         let domain = self.domain.as_text().as_bytes();
         let keyed = match &self.address.key {
@@ -112,10 +126,11 @@ fn start_links<R: NodeRuntime>(
     alloc: Global,
     dialler: &Dialler,
     queues: Vec<PeerQueue>,
+    log: &EventLog,
 ) -> Result<(), WantOfMemory> {
     for queue in queues {
         let peer = dialler.peer(alloc, queue.node)?;
-        start_link(rt, alloc, peer, queue)?;
+        start_link(rt, alloc, peer, queue, log.share()?)?;
     }
     Ok(())
 }
@@ -143,6 +158,7 @@ fn start_named<
         ports,
         store,
         ends,
+        log,
     } = start;
     let (id, n) = (owner.id, owner.n);
     let dialler = Dialler {
@@ -151,11 +167,12 @@ fn start_named<
         nodes: n,
         domain: owner.domain.copy()?,
     };
+    let of_keeper = log.share()?;
     let (keeper, senders, sessions) = open_saved::<B, S, R>(rt, alloc, history, owner, store)?;
     // where a thread around it can't be started, its senders go, and it ends
-    let (thread, takers) = start_keeper(rt, alloc, id, n, keeper)?;
-    start_links(rt, alloc, &dialler, takers)?;
-    start_around(rt, alloc, &ports, senders, sessions, ends)?;
+    let (thread, takers) = start_keeper(rt, alloc, id, n, keeper, of_keeper)?;
+    start_links(rt, alloc, &dialler, takers, &log)?;
+    start_around(rt, alloc, &ports, senders, sessions, ends, &log)?;
     Ok(thread)
 }
 

@@ -1,17 +1,17 @@
 //! A node that serves until the standard input ends.
 
-ghost use Rattle.std.specs.Prelude.{◌≡◌, ◌<◌, false, IfErr, IfOk, OnOk};
+ghost use Rattle.std.specs.Prelude.{◌≡◌, ◌<◌, false, IfErr, IfOk, OnOk, option_map};
 ghost use Rattle.desk_types.specs.Group.{IsGroup};
 ghost use Rattle.desk_network.specs.Ends.{IsServingEnd, HasRunningStore};
 ghost use Rattle.desk_types.specs.declared.refusal.Refusal.TheVariants as refusals;
 
 use crate::keeping::{KeeperThread, NodeEnd};
 use crate::node::{NodeStart, start_node};
-use desk_admission::GroupAddress;
-use desk_connections::{EndFlag, NodePorts, NodeRuntime, NodeSetup, end_with_input};
+use crate::watched_store::{SaveNews, WatchedStore};
+use desk_connections::{EndFlag, NodeRuntime, NodeSetup, end_with_input};
 use desk_log::StateStore;
 use desk_output::{flush, write_text};
-use desk_types::{Owner, Refusal, WantOfMemory};
+use desk_types::{Refusal, WantOfMemory};
 use std::alloc::Global;
 use std::io::{Input, Write};
 
@@ -54,28 +54,34 @@ fn start_serving<S: StateStore + Drop + Send + 'static, R: NodeRuntime + Input, 
     rt: &R,
     alloc: Global,
     writer: &mut W,
-    owner: Owner,
-    address: GroupAddress,
-    ports: NodePorts,
+    setup: NodeSetup,
     store: S,
 ) -> Result<ServedNode<S>, WantOfMemory>
 where
     R::Reader: Send,
-    requires group { IsGroup owner.n }
-    requires id { owner.id < owner.n }
+    requires group { IsGroup setup.owner.n }
+    requires id { setup.owner.id < setup.owner.n }
     requires running { S.stopped store ≡ false }
     ensures reported { IfOk result (λ served. IfErr served.reported (λ r. r ≡ refusals.WriteFault)) }
 {
     let Ok(EndFlags { own, timer, input }) = EndFlags::new(alloc) else {
+        drop(setup);
         drop(store);
         return Err(WantOfMemory);
     };
+    let NodeSetup {
+        owner,
+        address,
+        ports,
+        log,
+    } = setup;
     let start = NodeStart {
         owner,
         address,
         ports,
         store,
         ends: timer,
+        log,
     };
     let keeper = start_node(rt, alloc, start)?;
     end_with_input(rt, input)?;
@@ -84,6 +90,16 @@ where
         own.set();
     }
     Ok(ServedNode { keeper, reported })
+}
+
+/// The store that was watched, where it came back.
+fn unwatched<S, R: Drop>(watched: Option<WatchedStore<S, R>>) -> Option<S>
+    ensures { result ≡ option_map (λ w. w.store) watched }
+{
+    match watched {
+        Some(watched) => Some(watched.into_store()),
+        None => None,
+    }
 }
 
 /// Serves as the node whose state a store keeps, until the standard input ends or the store fails; `ready` is written
@@ -105,16 +121,20 @@ where
     // It ends well with a store that has not failed.
     ensures running { OnOk result.outcome (HasRunningStore S.StateStore result.store) }
 {
-    let NodeSetup {
-        owner,
-        address,
-        ports,
-    } = setup;
-    match start_serving(rt, alloc, writer, owner, address, ports, store) {
+    let Ok(log) = setup.log.share() else {
+        drop(setup);
+        drop(store);
+        return NodeEnd {
+            store: None,
+            outcome: Err(Refusal::WantOfMemory),
+        };
+    };
+    let news = SaveNews::new(*rt, log, setup.owner.n);
+    match start_serving(rt, alloc, writer, setup, WatchedStore::new(store, news)) {
         Ok(ServedNode { keeper, reported }) => {
             let NodeEnd { store, outcome } = keeper.join(rt);
             NodeEnd {
-                store,
+                store: unwatched(store),
                 outcome: outcome.and(reported),
             }
         }

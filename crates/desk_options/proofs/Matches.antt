@@ -11,7 +11,7 @@ use Rattle.clap.specs.declared.error.kind.ErrorKind.TheVariants as kind
 use Rattle.clap.specs.declared.parser.matches.ArgMatches.{ArgMatches}
 use Rattle.desk_options.specs.CommandLine.{Accepts, HasValues, OnRefused}
 use Rattle.desk_options.specs.CommandLine.{replay_app, world_app, answer_app, serve_app, cluster_app, send_app}
-use Rattle.desk_options.specs.CommandLine.{status_app, page_app}
+use Rattle.desk_options.specs.CommandLine.{status_app, page_app, log_app}
 use Rattle.desk_options.specs.declared.command_line.OptionsFault.{OptionsFault}
 use Rattle.desk_options.specs.declared.command_line.OptionsFault.TheVariants.{WantOfMemory}
 use Rattle.desk_options.proofs.Words.{always_refused}
@@ -67,3 +67,6 @@ status_is_simple = refl
 
 pub page_is_simple : is_simple_and_free page_app ≡ true
 page_is_simple = refl
+
+pub log_is_simple : is_simple_and_free log_app ≡ true
+log_is_simple = refl

@@ -2,19 +2,24 @@
 use Rattle.std.proofs.Common.{◌≡◌, ◌≤◌, ℕ, List, Option, None, Some, codes, arith}
 use Rattle.clap.specs.Simple.{matches_of}
 use Rattle.clap.specs.Walk.{Row, first_of}
-use Rattle.desk_options.specs.CommandLine.{AreSeconds, AsksFor, FindsGroup, page_app, send_app}
+use Rattle.desk_options.specs.CommandLine.{AreSeconds, IsFrom, AsksFor, FindsGroup, log_app, page_app, send_app}
 use Rattle.desk_options.specs.Host.{AreInRange, AsksHost, IsFollowInRange, IsRunInRange}
+use Rattle.desk_types.specs.declared.limits.TheConstants.{LAST_PLACE}
 use Rattle.desk_options.specs.declared.command_line.choice.FollowOptions.{FollowOptions}
 use Rattle.desk_options.specs.declared.command_line.choice.Options.{Options}
 use Rattle.desk_options.specs.declared.command_line.choice.Options.TheVariants as asked
 use Rattle.desk_options.specs.declared.command_line.send.TheConstants.{MOST_SECONDS, USUAL_SECONDS}
 use Rattle.desk_options.specs.declared.host.HostRun.{HostRun}
-use Rattle.desk_options.specs.declared.host.HostRun.TheVariants.{Answer, Serve, Cluster, Send, Status, Page}
+use Rattle.desk_options.specs.declared.host.HostRun.TheVariants.{Answer, Serve, Cluster, Send, Status, Page, Log}
 
 seconds_range : (given : Option (List ℕ)) (seconds : ℕ) → AreSeconds given seconds →
     (1 ≤ seconds) × (seconds ≤ MOST_SECONDS)
 seconds_range None seconds usual = let is : seconds ≡ USUAL_SECONDS = usual in (omega arith, omega arith)
 seconds_range (Some text) seconds spelled = (spelled.least, spelled.most)
+
+place_range : (given : Option (List ℕ)) (place : ℕ) → IsFrom given place → (1 ≤ place) × (place ≤ LAST_PLACE)
+place_range None place first = let is : place ≡ 1 = first in (omega arith, omega arith)
+place_range (Some text) place spelled = (spelled.least, spelled.most)
 
 followed_range : (rows : List Row) (group : Option FollowOptions) → FindsGroup rows group → IsFollowInRange group
 followed_range rows None finds = tt
@@ -43,6 +48,8 @@ run_in_range words (Page options) asks =
       range.0,
       range.1,
     )
+run_in_range words (Log options) asks =
+    place_range (first_of (codes "from") (matches_of log_app words)) options.from asks.finds_from
 
 -- all that words ask for
 pub in_range : (words : List (List ℕ)) (options : Options) → AsksFor words options → AreInRange options
@@ -54,4 +61,5 @@ in_range words (asked.Cluster options) asks = run_in_range words (Cluster option
 in_range words (asked.Send options) asks = run_in_range words (Send options) asks
 in_range words (asked.Status options) asks = run_in_range words (Status options) asks
 in_range words (asked.Page options) asks = run_in_range words (Page options) asks
+in_range words (asked.Log options) asks = run_in_range words (Log options) asks
 in_range words asked.Version asks = tt

@@ -17,7 +17,9 @@ use Rattle.desk_options.specs.declared.command_line.choice.AnswerOptions.{Answer
 use Rattle.desk_options.specs.declared.command_line.choice.ClusterOptions.{ClusterOptions}
 use Rattle.desk_options.specs.declared.command_line.choice.FollowOptions.{FollowOptions}
 use Rattle.desk_options.specs.declared.command_line.choice.Options.TheVariants.{Replay, World, Answer, Serve}
-use Rattle.desk_options.specs.declared.command_line.choice.Options.TheVariants.{Cluster, Send, Status, Page, Version}
+use Rattle.desk_options.specs.declared.command_line.choice.Options.TheVariants.{Cluster, Send, Status, Page, Log}
+use Rattle.desk_options.specs.declared.command_line.choice.Options.TheVariants.{Version}
+use Rattle.desk_options.specs.declared.command_line.choice.LogOptions.{LogOptions}
 use Rattle.desk_options.specs.declared.command_line.choice.PageOptions.{PageOptions}
 use Rattle.desk_options.specs.declared.command_line.choice.ReplayOptions.{ReplayOptions}
 use Rattle.desk_options.specs.declared.command_line.choice.SendOptions.{SendOptions}
@@ -28,7 +30,8 @@ use Rattle.desk_options.specs.CommandLine.{FindsDomain, SpellsNodes, FindsNodes,
 use Rattle.desk_options.specs.CommandLine.{SpellsNode, FindsNode, FindsOwner, FindsFile, AsksAnswer, OnRefused}
 use Rattle.desk_options.specs.CommandLine.{SpellsPort, FindsPort, AsksServe, AsksCluster, AsksSend, AsksStatus}
 use Rattle.desk_options.specs.CommandLine.{SpellsSeconds, AreSeconds, FindsSeconds, FindsGroup, AreFollowOptions}
-use Rattle.desk_options.specs.CommandLine.{IsFollowed, AsksVersion, AsksPage, FindsListen}
+use Rattle.desk_options.specs.CommandLine.{IsFollowed, AsksVersion, AsksPage, AsksLog, FindsListen}
+use Rattle.desk_options.specs.CommandLine.{SpellsPlace, IsFrom, FindsFrom}
 use Rattle.desk_options.specs.CommandLine.{most_port}
 use Rattle.desk_options.specs.declared.command_line.send.TheConstants.{USUAL_SECONDS}
 use Rattle.desk_options.specs.declared.command_line.port.TheConstants.{MOST_PORT}
@@ -71,6 +74,7 @@ no_replay words first none (Cluster options) asks =
 no_replay words first none (Send options) asks = unlike words (codes "replay") (codes "send") refl first asks.first
 no_replay words first none (Status options) asks = unlike words (codes "replay") (codes "status") refl first asks.first
 no_replay words first none (Page options) asks = unlike words (codes "replay") (codes "page") refl first asks.first
+no_replay words first none (Log options) asks = unlike words (codes "replay") (codes "log") refl first asks.first
 no_replay words first none Version asks = unlike_version words (codes "replay") refl refl first asks
 
 pub no_world : (words : List Text) → slice_get words 0 ≡ Some (codes "world") →
@@ -83,6 +87,7 @@ no_world words first none (Cluster options) asks = unlike words (codes "world") 
 no_world words first none (Send options) asks = unlike words (codes "world") (codes "send") refl first asks.first
 no_world words first none (Status options) asks = unlike words (codes "world") (codes "status") refl first asks.first
 no_world words first none (Page options) asks = unlike words (codes "world") (codes "page") refl first asks.first
+no_world words first none (Log options) asks = unlike words (codes "world") (codes "log") refl first asks.first
 no_world words first none Version asks = unlike_version words (codes "world") refl refl first asks
 
 pub no_answer : (words : List Text) → slice_get words 0 ≡ Some (codes "answer") →
@@ -96,6 +101,7 @@ no_answer words first none (Cluster options) asks =
 no_answer words first none (Send options) asks = unlike words (codes "answer") (codes "send") refl first asks.first
 no_answer words first none (Status options) asks = unlike words (codes "answer") (codes "status") refl first asks.first
 no_answer words first none (Page options) asks = unlike words (codes "answer") (codes "page") refl first asks.first
+no_answer words first none (Log options) asks = unlike words (codes "answer") (codes "log") refl first asks.first
 no_answer words first none Version asks = unlike_version words (codes "answer") refl refl first asks
 
 pub no_serve : (words : List Text) → slice_get words 0 ≡ Some (codes "serve") →
@@ -108,6 +114,7 @@ no_serve words first none (Cluster options) asks = unlike words (codes "serve") 
 no_serve words first none (Send options) asks = unlike words (codes "serve") (codes "send") refl first asks.first
 no_serve words first none (Status options) asks = unlike words (codes "serve") (codes "status") refl first asks.first
 no_serve words first none (Page options) asks = unlike words (codes "serve") (codes "page") refl first asks.first
+no_serve words first none (Log options) asks = unlike words (codes "serve") (codes "log") refl first asks.first
 no_serve words first none Version asks = unlike_version words (codes "serve") refl refl first asks
 
 pub no_cluster : (words : List Text) → slice_get words 0 ≡ Some (codes "cluster") →
@@ -123,6 +130,7 @@ no_cluster words first none (Send options) asks = unlike words (codes "cluster")
 no_cluster words first none (Status options) asks =
     unlike words (codes "cluster") (codes "status") refl first asks.first
 no_cluster words first none (Page options) asks = unlike words (codes "cluster") (codes "page") refl first asks.first
+no_cluster words first none (Log options) asks = unlike words (codes "cluster") (codes "log") refl first asks.first
 no_cluster words first none Version asks = unlike_version words (codes "cluster") refl refl first asks
 
 pub no_send : (words : List Text) → slice_get words 0 ≡ Some (codes "send") →
@@ -135,6 +143,7 @@ no_send words first none (Cluster options) asks = unlike words (codes "send") (c
 no_send words first none (Send options) asks = none options asks
 no_send words first none (Status options) asks = unlike words (codes "send") (codes "status") refl first asks.first
 no_send words first none (Page options) asks = unlike words (codes "send") (codes "page") refl first asks.first
+no_send words first none (Log options) asks = unlike words (codes "send") (codes "log") refl first asks.first
 no_send words first none Version asks = unlike_version words (codes "send") refl refl first asks
 
 pub no_status : (words : List Text) → slice_get words 0 ≡ Some (codes "status") →
@@ -148,6 +157,7 @@ no_status words first none (Cluster options) asks =
 no_status words first none (Send options) asks = unlike words (codes "status") (codes "send") refl first asks.first
 no_status words first none (Status options) asks = none options asks
 no_status words first none (Page options) asks = unlike words (codes "status") (codes "page") refl first asks.first
+no_status words first none (Log options) asks = unlike words (codes "status") (codes "log") refl first asks.first
 no_status words first none Version asks = unlike_version words (codes "status") refl refl first asks
 
 pub no_page : (words : List Text) → slice_get words 0 ≡ Some (codes "page") →
@@ -160,7 +170,21 @@ no_page words first none (Cluster options) asks = unlike words (codes "page") (c
 no_page words first none (Send options) asks = unlike words (codes "page") (codes "send") refl first asks.first
 no_page words first none (Status options) asks = unlike words (codes "page") (codes "status") refl first asks.first
 no_page words first none (Page options) asks = none options asks
+no_page words first none (Log options) asks = unlike words (codes "page") (codes "log") refl first asks.first
 no_page words first none Version asks = unlike_version words (codes "page") refl refl first asks
+
+pub no_log : (words : List Text) → slice_get words 0 ≡ Some (codes "log") →
+    ((options : LogOptions) → AsksLog words options → ⊥) → AskForNothing words
+no_log words first none (Replay options) asks = unlike words (codes "log") (codes "replay") refl first asks.first
+no_log words first none (World options) asks = unlike words (codes "log") (codes "world") refl first asks.first
+no_log words first none (Answer options) asks = unlike words (codes "log") (codes "answer") refl first asks.first
+no_log words first none (Serve options) asks = unlike words (codes "log") (codes "serve") refl first asks.first
+no_log words first none (Cluster options) asks = unlike words (codes "log") (codes "cluster") refl first asks.first
+no_log words first none (Send options) asks = unlike words (codes "log") (codes "send") refl first asks.first
+no_log words first none (Status options) asks = unlike words (codes "log") (codes "status") refl first asks.first
+no_log words first none (Page options) asks = unlike words (codes "log") (codes "page") refl first asks.first
+no_log words first none (Log options) asks = none options asks
+no_log words first none Version asks = unlike_version words (codes "log") refl refl first asks
 
 -- a first word that is another one
 pub other_word : (words : List Text) (one other : Text) → slice_get words 0 ≡ Some one → false ≡ bytes_eq one other →
@@ -183,17 +207,20 @@ pub no_command : (words : List Text) →
     (slice_get words 0 ≡ Some (codes "send") → ⊥) →
     (slice_get words 0 ≡ Some (codes "status") → ⊥) →
     (slice_get words 0 ≡ Some (codes "page") → ⊥) →
+    (slice_get words 0 ≡ Some (codes "log") → ⊥) →
     (AsksVersion words → ⊥) →
     AskForNothing words
-no_command words replay world answer serve cluster send status page version (Replay options) asks = replay asks.first
-no_command words replay world answer serve cluster send status page version (World options) asks = world asks.first
-no_command words replay world answer serve cluster send status page version (Answer options) asks = answer asks.first
-no_command words replay world answer serve cluster send status page version (Serve options) asks = serve asks.first
-no_command words replay world answer serve cluster send status page version (Cluster options) asks = cluster asks.first
-no_command words replay world answer serve cluster send status page version (Send options) asks = send asks.first
-no_command words replay world answer serve cluster send status page version (Status options) asks = status asks.first
-no_command words replay world answer serve cluster send status page version (Page options) asks = page asks.first
-no_command words replay world answer serve cluster send status page version Version asks = version asks
+no_command words replay world answer serve cluster send status page log other (Replay options) asks = replay asks.first
+no_command words replay world answer serve cluster send status page log other (World options) asks = world asks.first
+no_command words replay world answer serve cluster send status page log other (Answer options) asks = answer asks.first
+no_command words replay world answer serve cluster send status page log other (Serve options) asks = serve asks.first
+no_command words replay world answer serve cluster send status page log other (Cluster options) asks =
+    cluster asks.first
+no_command words replay world answer serve cluster send status page log other (Send options) asks = send asks.first
+no_command words replay world answer serve cluster send status page log other (Status options) asks = status asks.first
+no_command words replay world answer serve cluster send status page log other (Page options) asks = page asks.first
+no_command words replay world answer serve cluster send status page log other (Log options) asks = log asks.first
+no_command words replay world answer serve cluster send status page log other Version asks = other asks
 
 -- There is no word.
 pub no_word : (words : List Text) → slice_get words 0 ≡ None → AskForNothing words
@@ -201,7 +228,7 @@ no_word words none =
     let never = λ (other : Text) (is : slice_get words 0 ≡ Some other). none-some other (sym none ∙ is) in
     no_command words (never (codes "replay")) (never (codes "world")) (never (codes "answer")) (never (codes "serve"))
     (never (codes "cluster")) (never (codes "send")) (never (codes "status"))
-    (never (codes "page")) (no_version words (never (codes "--version")) (never (codes "-V")))
+    (never (codes "page")) (never (codes "log")) (no_version words (never (codes "--version")) (never (codes "-V")))
 
 pub first-map : {A B : Type 0} (f : A → B) (xs : List A) → slice_get (map f xs) 0 ≡ option_map f (slice_get xs 0)
 first-map f [] = refl
@@ -318,6 +345,19 @@ no_seconds_in rows text given none seconds finds = none seconds (subst (λ t. Ar
 
 pub usual_seconds : (rows : List Row) → first_of (codes "seconds") rows ≡ None → FindsSeconds rows USUAL_SECONDS
 usual_seconds rows given = subst (λ t. AreSeconds t USUAL_SECONDS) (sym given) refl
+
+-- the place to begin with among what was found
+
+pub from_in : (rows : List Row) (text : List ℕ) (place : ℕ) → first_of (codes "from") rows ≡ Some text →
+    SpellsPlace text place → FindsFrom rows place
+from_in rows text place given spelled = subst (λ t. IsFrom t place) (sym given) spelled
+
+pub no_from_in : (rows : List Row) (text : List ℕ) → first_of (codes "from") rows ≡ Some text →
+    ((place : ℕ) → SpellsPlace text place → ⊥) → (place : ℕ) → FindsFrom rows place → ⊥
+no_from_in rows text given none place finds = none place (subst (λ t. IsFrom t place) given finds)
+
+pub first_place : (rows : List Row) → first_of (codes "from") rows ≡ None → FindsFrom rows 1
+first_place rows given = subst (λ t. IsFrom t 1) (sym given) refl
 
 pub some_seconds : (rows : List Row) (text : List ℕ) → first_of (codes "seconds") rows ≡ Some text →
     first_of (codes "seconds") rows ≡ None → ⊥

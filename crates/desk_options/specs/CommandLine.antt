@@ -1,25 +1,29 @@
 -- What a command line asks for. The words are those after the program's name.
-use Rattle.std.specs.Prelude.{◌≡◌, ◌⊎◌, ◌<◌, ◌≤◌, ℕ, pos, List, [], Option, Some, None, true, false, codes, slice_get}
-use Rattle.std.specs.Prelude.{option_map, string_bytes}
+use Rattle.std.specs.Prelude.{◌≡◌, ◌⊎◌, ◌<◌, ◌≤◌, ℕ, pos, List, [], Option, Some, None, Bool, true, false, codes}
+use Rattle.std.specs.Prelude.{slice_get, option_map, string_bytes}
 use Rattle.std.specs.Str.{str_to_ascii_lowercase}
 use Rattle.std.specs.Str.Parse.{IsNumeral, signed_digits_value, without_leading_sign}
 use Rattle.clap.specs.Matches.{found_of}
-use Rattle.clap.specs.Walk.{Row, Rule, Text, rows_of, first_of}
+use Rattle.clap.specs.Walk.{Row, Rule, Text, rows_of, first_of, one_of}
 use Rattle.clap.specs.Faults.{fault_of}
 use Rattle.clap.specs.Simple.{App, new_app, new_rule, with_rule, matches_of}
+use Rattle.clap.specs.declared.builder.action.ArgAction.TheVariants.{SetTrue}
 use Rattle.clap.specs.declared.builder.value_parser.ValueParser.TheVariants.{Signed}
 use Rattle.clap.specs.declared.parser.matches.ArgMatches.{ArgMatches}
 use Rattle.desk_types.specs.Group.{IsGroupSize}
 use Rattle.desk_types.specs.Identifier.{IsDomain}
+use Rattle.desk_types.specs.declared.limits.TheConstants.{LAST_PLACE}
 use Rattle.desk_types.specs.declared.owner.Owner.{Owner}
 use Rattle.desk_options.specs.declared.command_line.OptionsFault.{OptionsFault}
 use Rattle.desk_options.specs.declared.command_line.OptionsFault.TheVariants.{WantOfMemory, Refused}
 use Rattle.desk_options.specs.declared.command_line.choice.AnswerOptions.{AnswerOptions}
 use Rattle.desk_options.specs.declared.command_line.choice.ClusterOptions.{ClusterOptions}
 use Rattle.desk_options.specs.declared.command_line.choice.FollowOptions.{FollowOptions}
+use Rattle.desk_options.specs.declared.command_line.choice.LogOptions.{LogOptions}
 use Rattle.desk_options.specs.declared.command_line.choice.Options.{Options}
 use Rattle.desk_options.specs.declared.command_line.choice.Options.TheVariants.{Replay, World, Answer, Serve}
-use Rattle.desk_options.specs.declared.command_line.choice.Options.TheVariants.{Cluster, Send, Status, Page, Version}
+use Rattle.desk_options.specs.declared.command_line.choice.Options.TheVariants.{Cluster, Send, Status, Page, Log}
+use Rattle.desk_options.specs.declared.command_line.choice.Options.TheVariants.{Version}
 use Rattle.desk_options.specs.declared.command_line.choice.PageOptions.{PageOptions}
 use Rattle.desk_options.specs.declared.command_line.choice.ReplayOptions.{ReplayOptions}
 use Rattle.desk_options.specs.declared.command_line.choice.SendOptions.{SendOptions}
@@ -80,19 +84,23 @@ abbrev pub optional_rule : Rule → Rule
 optional_rule rule = record rule { required = false }
 
 -- an option of any text that may be left out
-abbrev pub hidden_rule : Text → Rule
-hidden_rule name = optional_rule (text_rule name)
+abbrev pub text_option_rule : Text → Rule
+text_option_rule name = optional_rule (text_rule name)
 
 -- a command with `--hosts HOSTS`, `--key FILE` and `--client-key FILE`, which may be left out
 abbrev pub with_hosts : App → App
-with_hosts app = with_rule (with_rule (with_rule app (hidden_rule (codes "hosts"))) (hidden_rule (codes "key")))
-    (hidden_rule (codes "client-key"))
+with_hosts app = with_rule (with_rule (with_rule app (text_option_rule (codes "hosts")))
+    (text_option_rule (codes "key"))) (text_option_rule (codes "client-key"))
 
--- the command `serve --node NODE --nodes NODES --domain DOMAIN --port PORT --file FILE`, on several hosts
+-- `--log`, which has no value and may be left out
+abbrev pub log_rule : Rule
+log_rule = record (new_rule (codes "log")) { long = Some (codes "log"); action = Some SetTrue }
+
+-- the command `serve --node NODE --nodes NODES --domain DOMAIN --port PORT --file FILE --log`, on several hosts
 abbrev pub serve_app : App
-serve_app = with_hosts
+serve_app = with_hosts (with_rule
     (with_rule (with_rule (with_rule (with_rule (with_rule (new_app (codes "serve")) node_rule) nodes_rule) domain_rule)
-    (port_rule MOST_GROUP_PORT)) file_rule)
+    (port_rule MOST_GROUP_PORT)) file_rule) log_rule)
 
 -- the command `cluster --nodes NODES --domain DOMAIN --port PORT`
 abbrev pub cluster_app : App
@@ -107,7 +115,7 @@ seconds_rule = optional_rule (number_rule (codes "seconds") 1 MOST_SECONDS)
 -- several hosts
 abbrev pub send_app : App
 send_app = with_hosts (with_rule (with_rule (with_rule (with_rule (new_app (codes "send"))
-    (port_rule MOST_SESSION_PORT)) (optional_rule nodes_rule)) seconds_rule) (hidden_rule (codes "host")))
+    (port_rule MOST_SESSION_PORT)) (optional_rule nodes_rule)) seconds_rule) (text_option_rule (codes "host")))
 
 -- the command `status --port PORT --nodes NODES`, on several hosts
 abbrev pub status_app : App
@@ -122,6 +130,14 @@ abbrev pub page_app : App
 page_app = with_hosts
     (with_rule (with_rule (with_rule (with_rule (new_app (codes "page")) (port_rule MOST_GROUP_PORT)) nodes_rule)
     listen_rule) seconds_rule)
+
+-- `--from PLACE`, which may be left out
+abbrev pub from_rule : Rule
+from_rule = optional_rule (number_rule (codes "from") 1 LAST_PLACE)
+
+-- the command `log --file FILE --from PLACE`
+abbrev pub log_app : App
+log_app = with_rule (with_rule (new_app (codes "log")) file_rule) from_rule
 
 -- A command accepts the words, of which the first is its name.
 abbrev pub Accepts : App → List Text → Type 0
@@ -176,6 +192,12 @@ FindsFile rows file = first_of (codes "file") rows ≡ Some file
 abbrev pub FindsText : List Row → Text → Option Text → Type 0
 FindsText rows name text = text ≡ first_of name rows
 
+-- that a flag was found is this, by the text that the parser has for it
+pub record FindsFlag (rows : List Row) (name : Text) (is : Bool) : Type 0 where
+  pub none : one_of name rows ≡ None → is ≡ false
+  pub given : one_of name rows ≡ Some (codes "true") → is ≡ true
+  pub other : one_of name rows ≡ Some (codes "false") → is ≡ false
+
 -- the key of sessions: that of clients, or else that of nodes
 abbrev pub session_key : Option Text → Option Text → Option Text
 session_key None key = key
@@ -223,6 +245,22 @@ AreSeconds (Some text) seconds = SpellsSeconds text seconds
 abbrev pub FindsSeconds : List Row → ℕ → Type 0
 FindsSeconds rows seconds = AreSeconds (first_of (codes "seconds") rows) seconds
 
+-- The text spells this place, which may be given.
+pub record SpellsPlace (text : List ℕ) (place : ℕ) : Type 0 where
+  pub numeral : IsNumeral 10 (without_leading_sign text)
+  pub value : signed_digits_value 10 text ≡ pos place
+  pub least : 1 ≤ place
+  pub most : place ≤ LAST_PLACE
+
+-- the place is the one that a text spells, or the first where there is none
+abbrev pub IsFrom : Option (List ℕ) → ℕ → Type 0
+IsFrom None place = place ≡ 1
+IsFrom (Some text) place = SpellsPlace text place
+
+-- the place that was found to begin with is this
+abbrev pub FindsFrom : List Row → ℕ → Type 0
+FindsFrom rows place = IsFrom (first_of (codes "from") rows) place
+
 -- a group that was found to be followed is this
 abbrev pub AreFollowOptions : List Row → FollowOptions → Type 0
 AreFollowOptions rows group = FindsNodes rows group.nodes × FindsSeconds rows group.seconds
@@ -263,8 +301,8 @@ pub record AsksAnswer (words : List Text) (options : AnswerOptions) : Type 0 whe
   pub finds_owner : FindsOwner (matches_of answer_app words) options.owner
   pub finds_file : FindsFile (matches_of answer_app words) (string_bytes options.file)
 
--- `serve` is the first word, its command accepts the words, and the owner, the port, the file, the hosts and the
--- keys are those that it finds there.
+-- `serve` is the first word, its command accepts the words, and the owner, the port, the file, the hosts, the keys and
+-- whether there is a log are those that it finds there.
 pub record AsksServe (words : List Text) (options : ServeOptions) : Type 0 where
   pub first : slice_get words 0 ≡ Some (codes "serve")
   pub accepts : Accepts serve_app words
@@ -276,6 +314,7 @@ pub record AsksServe (words : List Text) (options : ServeOptions) : Type 0 where
   pub finds_key : FindsText (matches_of serve_app words) (codes "key") (option_map (λ t. string_bytes t) options.key)
   pub finds_client_key : FindsSessionKey (matches_of serve_app words)
       (option_map (λ t. string_bytes t) options.client_key)
+  pub finds_log : FindsFlag (matches_of serve_app words) (codes "log") options.log
 
 -- `cluster` is the first word, its command accepts the words, and the number of nodes, the domain and the port are
 -- those that it finds there.
@@ -322,6 +361,13 @@ pub record AsksPage (words : List Text) (options : PageOptions) : Type 0 where
       (option_map (λ t. string_bytes t) options.hosts)
   pub finds_key : FindsSessionKey (matches_of page_app words) (option_map (λ t. string_bytes t) options.key)
 
+-- `log` is the first word, its command accepts the words, and the file and the place are those that it finds there.
+pub record AsksLog (words : List Text) (options : LogOptions) : Type 0 where
+  pub first : slice_get words 0 ≡ Some (codes "log")
+  pub accepts : Accepts log_app words
+  pub finds_file : FindsFile (matches_of log_app words) (string_bytes options.file)
+  pub finds_from : FindsFrom (matches_of log_app words) options.from
+
 -- `--version` or `-V` is the first word
 abbrev pub AsksVersion : List Text → Type 0
 AsksVersion words = (slice_get words 0 ≡ Some (codes "--version")) ⊎ (slice_get words 0 ≡ Some (codes "-V"))
@@ -336,6 +382,7 @@ AsksFor words (Cluster options) = AsksCluster words options
 AsksFor words (Send options) = AsksSend words options
 AsksFor words (Status options) = AsksStatus words options
 AsksFor words (Page options) = AsksPage words options
+AsksFor words (Log options) = AsksLog words options
 AsksFor words Version = AsksVersion words
 
 -- there is nothing that the words ask for

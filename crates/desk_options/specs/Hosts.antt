@@ -7,7 +7,7 @@ use Rattle.std.specs.Net.Grammar.{IsIpText}
 use Rattle.std.specs.declared.net.ip_addr.IpAddr.{IpAddr}
 use Rattle.desk_options.specs.declared.command_line.choice.FollowOptions.{FollowOptions}
 use Rattle.desk_options.specs.declared.host.HostRun.{HostRun}
-use Rattle.desk_options.specs.declared.host.HostRun.TheVariants.{Answer, Serve, Cluster, Send, Status, Page}
+use Rattle.desk_options.specs.declared.host.HostRun.TheVariants.{Answer, Serve, Cluster, Send, Status, Page, Log}
 
 -- the hosts of a text, which has commas between them
 abbrev pub hosts_in : List ℕ → List (List ℕ)
@@ -46,3 +46,4 @@ HasAllowedHosts (Cluster options) = ⊤
 HasAllowedHosts (Send options) = IsSentToAllowed (is_some options.key) options.group options.host options.hosts
 HasAllowedHosts (Status options) = AreAllowed (is_some options.key) options.nodes options.hosts
 HasAllowedHosts (Page options) = AreAllowed (is_some options.key) options.nodes options.hosts
+HasAllowedHosts (Log options) = ⊤

@@ -17,6 +17,7 @@ ghost use Rattle.desk_options.specs.declared.command_line.OptionsFault.TheVarian
 mod answer;
 mod choice;
 mod cluster;
+mod log;
 mod network;
 mod page;
 mod port;
@@ -27,13 +28,14 @@ mod status;
 use crate::version::VERSION;
 use answer::{answer_command, answer_options};
 pub use choice::{
-    AnswerOptions, ClusterOptions, FollowOptions, Options, PageOptions, ReplayOptions, SendOptions,
-    ServeOptions, StatusOptions, WorldOptions,
+    AnswerOptions, ClusterOptions, FollowOptions, LogOptions, Options, PageOptions, ReplayOptions,
+    SendOptions, ServeOptions, StatusOptions, WorldOptions,
 };
 use clap::error::ErrorKind;
 use clap::{Arg, ArgMatches, Command, Error};
 use cluster::{cluster_command, cluster_options};
 use desk_types::Domain;
+use log::{log_command, log_options};
 use page::{page_command, page_options};
 pub use port::{LEAST_PORT, MOST_GROUP_PORT, MOST_PORT, MOST_SESSION_PORT};
 use send::{send_command, send_options};
@@ -227,7 +229,8 @@ fn desk_command<'a>(alloc: Global) -> Result<Command<'a>, AllocError> {
     let command = with_subcommand(command, cluster_command(alloc));
     let command = with_subcommand(command, send_command(alloc));
     let command = with_subcommand(command, status_command(alloc));
-    with_subcommand(command, page_command(alloc))
+    let command = with_subcommand(command, page_command(alloc));
+    with_subcommand(command, log_command(alloc))
 }
 
 /// The refusal of `clap`, in its words.
@@ -350,9 +353,9 @@ fn world_options(alloc: Global, words: &[&str]) -> Result<Options, OptionsFault>
 
 /// What the words after the program's name ask for. They are refused, with a text for the standard error, where they
 /// begin neither with a subcommand nor with `--version` or `-V`, where `clap` refuses the words of that subcommand (a
-/// call for help among them, and a port or seconds out of range), where the value of `--nodes` is neither 3 nor 5,
-/// where that of `--node` is not below it, and where that of `--domain` is no domain. `send` is refused `--seconds`
-/// without `--nodes`, and with it a port that is no group's.
+/// call for help among them, and a port, seconds or a place out of range), where the value of `--nodes` is neither 3
+/// nor 5, where that of `--node` is not below it, and where that of `--domain` is no domain. `send` is refused
+/// `--seconds` without `--nodes`, and with it a port that is no group's.
 pub fn options(alloc: Global, words: &[&str]) -> Result<Options, OptionsFault>
     ensures asked { IfOk result (AsksFor (map (λ s. s.now) words.now)) }
     // Words are refused only where they ask for nothing.
@@ -367,6 +370,7 @@ pub fn options(alloc: Global, words: &[&str]) -> Result<Options, OptionsFault>
         Some(first) if *first == "send" => send_options(alloc, words),
         Some(first) if *first == "status" => status_options(alloc, words),
         Some(first) if *first == "page" => page_options(alloc, words),
+        Some(first) if *first == "log" => log_options(alloc, words),
         Some(first) if *first == "--version" => Ok(Options::Version),
         Some(first) if *first == "-V" => Ok(Options::Version),
         _ => Err(refused_words(alloc, words)),

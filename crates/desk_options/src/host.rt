@@ -1,7 +1,8 @@
 //! What the words of the command line ask for where the host's files or sockets are needed for it.
 
 use crate::command_line::{
-    AnswerOptions, ClusterOptions, PageOptions, SendOptions, ServeOptions, StatusOptions,
+    AnswerOptions, ClusterOptions, LogOptions, PageOptions, SendOptions, ServeOptions,
+    StatusOptions,
 };
 
 /// A run that needs files or sockets of the host, which its caller opens.
@@ -19,4 +20,6 @@ pub enum HostRun {
     Status(StatusOptions),
     /// Serve the live page of a group to browsers on this host.
     Page(PageOptions),
+    /// Print the committed commands that the files of a node keep.
+    Log(LogOptions),
 }

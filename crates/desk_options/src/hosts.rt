@@ -144,6 +144,6 @@ pub fn check_hosts_of(alloc: Global, run: &HostRun) -> Result<(), OptionsFault>
         HostRun::Page(options) => {
             check_hosts(alloc, &options.hosts, options.nodes, options.key.is_some())
         }
-        HostRun::Answer(_) | HostRun::Cluster(_) => Ok(()),
+        HostRun::Answer(_) | HostRun::Cluster(_) | HostRun::Log(_) => Ok(()),
     }
 }

@@ -9,8 +9,8 @@ mod hosts;
 mod version;
 
 pub use command_line::{
-    AnswerOptions, ClusterOptions, FollowOptions, LEAST_PORT, MOST_GROUP_PORT, MOST_PORT,
-    MOST_SESSION_PORT, Options, OptionsFault, PageOptions, ReplayOptions, SendOptions,
+    AnswerOptions, ClusterOptions, FollowOptions, LEAST_PORT, LogOptions, MOST_GROUP_PORT,
+    MOST_PORT, MOST_SESSION_PORT, Options, OptionsFault, PageOptions, ReplayOptions, SendOptions,
     ServeOptions, StatusOptions, WorldOptions, options,
 };
 pub use faults::{fault_status, unserved_status};

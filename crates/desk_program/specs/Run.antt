@@ -7,7 +7,8 @@ use Rattle.desk_lines.specs.Lines.{lines_of}
 use Rattle.desk_options.specs.CommandLine.{AsksFor, AskForNothing}
 use Rattle.desk_options.specs.declared.command_line.choice.Options.{Options}
 use Rattle.desk_options.specs.declared.command_line.choice.Options.TheVariants.{Replay, World, Answer, Serve}
-use Rattle.desk_options.specs.declared.command_line.choice.Options.TheVariants.{Cluster, Send, Status, Page, Version}
+use Rattle.desk_options.specs.declared.command_line.choice.Options.TheVariants.{Cluster, Send, Status, Page, Log}
+use Rattle.desk_options.specs.declared.command_line.choice.Options.TheVariants.{Version}
 use Rattle.desk_options.specs.declared.command_line.choice.WorldOptions.{WorldOptions}
 use Rattle.desk_options.specs.Version.{version_line}
 use Rattle.desk_output.specs.Prefixes.{AppendsPrefix}
@@ -26,6 +27,7 @@ AppendsAsked old new (Cluster options) input = ⊥
 AppendsAsked old new (Send options) input = ⊥
 AppendsAsked old new (Status options) input = ⊥
 AppendsAsked old new (Page options) input = ⊥
+AppendsAsked old new (Log options) input = ⊥
 AppendsAsked old new Version input = Appends old new version_line
 
 -- they grow by a prefix of it
@@ -38,6 +40,7 @@ AppendsPart old new (Cluster options) input = ⊥
 AppendsPart old new (Send options) input = ⊥
 AppendsPart old new (Status options) input = ⊥
 AppendsPart old new (Page options) input = ⊥
+AppendsPart old new (Log options) input = ⊥
 AppendsPart old new Version input = AppendsPrefix old new version_line
 
 -- Nothing is read for the version, and the whole input for anything else.
@@ -73,6 +76,7 @@ WritesWhole (Cluster options) input old new = ⊥
 WritesWhole (Send options) input old new = ⊥
 WritesWhole (Status options) input old new = ⊥
 WritesWhole (Page options) input old new = ⊥
+WritesWhole (Log options) input old new = ⊥
 WritesWhole Version input old new = ⊥
 
 -- A run of a group of nodes has read its whole input.

@@ -167,6 +167,7 @@ pub fn run_words<R: ReadPieces, W: WriteTexts, E: Write>(
         Options::Send(options) => Err(HostRun::Send(options)),
         Options::Status(options) => Err(HostRun::Status(options)),
         Options::Page(options) => Err(HostRun::Page(options)),
+        Options::Log(options) => Err(HostRun::Log(options)),
         Options::Version => Ok(version(writer, errors)),
     }
 }

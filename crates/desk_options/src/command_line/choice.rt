@@ -24,6 +24,8 @@ pub enum Options {
     Status(StatusOptions),
     /// Serve the live page of a group to browsers on this host.
     Page(PageOptions),
+    /// Print the committed commands that the files of a node keep.
+    Log(LogOptions),
     /// Print the version of the program, and the kit that proved it.
     Version,
 }
@@ -42,6 +44,7 @@ impl Options {
             Options::Send(_) => {}
             Options::Status(_) => {}
             Options::Page(_) => {}
+            Options::Log(_) => {}
             Options::Version => {}
         }
     }
@@ -87,6 +90,8 @@ pub struct ServeOptions {
     pub key: Option<String>,
     /// The path of the key of the port for sessions, where it has one.
     pub client_key: Option<String>,
+    /// Whether the node tells its changes.
+    pub log: bool,
 }
 
 /// The options of a group of nodes on the network of one host.
@@ -154,4 +159,13 @@ pub struct PageOptions {
     /// The path of the key of sessions, where they have one.
     pub key: Option<String>,
     ghost few: { IsGroupSize nodes },
+}
+
+/// The options of the archive of a node's files.
+#[derive(Drop)]
+pub struct LogOptions {
+    /// The path of the first file.
+    pub file: String,
+    /// The first place whose command is printed, from 1 to 999,999,999,999.
+    pub from: u64,
 }

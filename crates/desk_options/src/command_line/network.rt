@@ -3,7 +3,7 @@
 ghost use Rattle.std.specs.Prelude.{◌≡◌, ◌∷◌, [], false, IfOk, IfErr, codes, option_map, string_bytes};
 ghost use Rattle.clap.specs.Matches.{found_of};
 ghost use Rattle.clap.specs.Walk.{rows_of, rule_of};
-ghost use Rattle.desk_options.specs.CommandLine.{FindsText, FindsSessionKey, hidden_rule};
+ghost use Rattle.desk_options.specs.CommandLine.{FindsText, FindsSessionKey, text_option_rule};
 ghost use Rattle.desk_options.specs.Commands.{AddsRule, AddsRules};
 ghost use Rattle.desk_options.specs.declared.command_line.OptionsFault.TheVariants as faults;
 
@@ -11,23 +11,24 @@ use super::{OptionsFault, with_argument};
 use clap::{Arg, ArgMatches, Command};
 use std::alloc::{AllocError, Global};
 
-/// An option of this name that may be left out, any text. Help and usage do not show it.
-fn hidden_argument<'a>(alloc: Global, name: &'a str) -> Arg<'a>
-    ensures rule { rule_of result ≡ hidden_rule name.now }
+/// An option of this name that may be left out, any text, with what help says of it.
+fn text_option<'a>(alloc: Global, name: &'a str, help: &'a str) -> Arg<'a>
+    ensures rule { rule_of result ≡ text_option_rule name.now }
     ensures local { result.global ≡ false }
 {
-    Arg::new(alloc, name).long(name).hide(true)
+    Arg::new(alloc, name).long(name).help(help)
 }
 
-/// A command with an option of this name that may be left out, and that help does not show.
-pub(crate) fn with_hidden<'a>(
+/// A command with an option of this name that may be left out, any text, and what help says of it.
+pub(crate) fn with_text_option<'a>(
     alloc: Global,
     command: Result<Command<'a>, AllocError>,
     name: &'a str,
+    help: &'a str,
 ) -> Result<Command<'a>, AllocError>
-    ensures { AddsRule command.entry (hidden_rule name.now) result }
+    ensures { AddsRule command.entry (text_option_rule name.now) result }
 {
-    with_argument(command, hidden_argument(alloc, name))
+    with_argument(command, text_option(alloc, name, help))
 }
 
 /// A command with the options of a group on several hosts: `--hosts`, `--key` and `--client-key`.
@@ -36,11 +37,15 @@ pub(crate) fn with_hosts<'a>(
     command: Result<Command<'a>, AllocError>,
 ) -> Result<Command<'a>, AllocError>
     ensures { AddsRules command.entry
-        (hidden_rule (codes "hosts") ∷ hidden_rule (codes "key") ∷ hidden_rule (codes "client-key") ∷ []) result }
+        (text_option_rule (codes "hosts") ∷ text_option_rule (codes "key")
+        ∷ text_option_rule (codes "client-key") ∷ []) result }
 {
-    let hosted = with_hidden(alloc, command, "hosts");
-    let keyed = with_hidden(alloc, hosted, "key");
-    with_hidden(alloc, keyed, "client-key")
+    let help = "The hosts of the nodes, in their order, with commas between; else 127.0.0.1";
+    let hosted = with_text_option(alloc, command, "hosts", help);
+    let help = "The file of the key of nodes, and of clients where they have none of their own";
+    let keyed = with_text_option(alloc, hosted, "key", help);
+    let help = "The file of the key of clients, where they have one of their own";
+    with_text_option(alloc, keyed, "client-key", help)
 }
 
 /// The text that was given for an option, where one was.

@@ -58,8 +58,9 @@ pub(crate) fn page_command<'a>(alloc: Global) -> Result<Command<'a>, AllocError>
         bin_name: "desk page",
         about: "Serves the live page of a group to browsers on this host",
         after_help: "\
-The nodes are those of `desk serve` or `desk cluster` on this host, which were given --port PORT. Browsers on this
-host open http://127.0.0.1:LISTEN/. Whoever may connect there may send commands. It ends with its standard input.
+The nodes are those of `desk serve` or `desk cluster`, on this host or at --hosts, which were given --port PORT.
+Browsers on this host open http://127.0.0.1:LISTEN/. Whoever may connect there may send commands. It ends with its
+standard input.
 
 Example: desk page --port 4000 --nodes 3 --listen 8080",
     };

@@ -12,7 +12,7 @@ ghost use Rattle.desk_options.specs.Commands.{AddsRules};
 ghost use Rattle.desk_options.specs.declared.command_line.choice.FollowOptions.{FollowOptions};
 ghost use Rattle.desk_options.specs.declared.command_line.port.TheConstants.{MOST_SESSION_PORT};
 
-use super::network::{session_key_found, text_found, with_hidden, with_hosts};
+use super::network::{session_key_found, text_found, with_hosts, with_text_option};
 use super::port::{MOST_GROUP_PORT, MOST_SESSION_PORT, port_argument, port_found};
 use super::{
     FollowOptions, HelpTexts, Options, OptionsFault, SendOptions, nodes_found, read_words,
@@ -37,7 +37,7 @@ fn followed_argument<'a>(alloc: Global) -> Arg<'a>
         .long("nodes")
         .value_parser(clap::value_parser!(u8))
         .help(
-            "How many nodes the group has, 3 or 5; lines go to its primary, each until its final reply",
+            "How many nodes a group has, 3 or 5; a line goes to its primary until its final reply",
         )
 }
 
@@ -61,7 +61,7 @@ fn with_send<'a>(
         (port_rule MOST_SESSION_PORT ∷ optional_rule nodes_rule ∷ seconds_rule ∷ []) result }
 {
     let help =
-        "The port of the node's sessions, from 1024 to 65014; with --nodes the group's first, to 65000";
+        "A node's port for sessions, 1024 to 65014; with --nodes the group's first, to 65000";
     let ported = with_argument(command, port_argument(alloc, MOST_SESSION_PORT, help));
     let followed = with_argument(ported, followed_argument(alloc));
     let help = "With --nodes, for how long a line is asked again: from 1 to 3600 seconds, else 30";
@@ -76,15 +76,16 @@ pub(crate) fn send_command<'a>(alloc: Global) -> Result<Command<'a>, AllocError>
         bin_name: "desk send",
         about: "Sends the documents on the standard input to a node or a group, one a line, and prints its replies",
         after_help: "\
-The nodes are those of `desk serve` or `desk cluster` on this host. Where these were given --port PORT, the sessions
-of node I are at port PORT + 10 + I. With --nodes the port is PORT itself, and a line goes to one node after another
-until its final reply comes.
+The nodes are those of `desk serve` or `desk cluster`. Where these were given --port PORT, the sessions of node I
+are at port PORT + 10 + I of this host, or of --host or the I-th of --hosts. With --nodes the port is PORT itself, and
+a line goes to one node after another until its final reply comes.
 
 Examples: desk send --port 4010 < examples/first-incident.jsonl
           desk send --port 4000 --nodes 3 < examples/first-incident.jsonl",
     };
     let command = with_send(alloc, subcommand(alloc, "send", texts));
-    with_hosts(alloc, with_hidden(alloc, command, "host"))
+    let help = "Without --nodes, the address or name of the node's host, else 127.0.0.1";
+    with_hosts(alloc, with_text_option(alloc, command, "host", help))
 }
 
 /// What is told of seconds that are no number from 1 to 3,600.

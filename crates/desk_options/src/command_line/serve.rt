@@ -1,7 +1,10 @@
 //! The subcommand `serve`.
 
-ghost use Rattle.std.specs.Prelude.{◌≡◌, Some, IfOk, IfErr, codes, map, slice_get};
+ghost use Rattle.std.specs.Prelude.{◌≡◌, false, Some, IfOk, IfErr, codes, map, slice_get};
+ghost use Rattle.clap.specs.Matches.{found_of};
 ghost use Rattle.clap.specs.Simple.{app_of};
+ghost use Rattle.clap.specs.Walk.{rows_of, rule_of};
+ghost use Rattle.desk_options.specs.CommandLine.{log_rule, FindsFlag};
 ghost use Rattle.desk_options.specs.CommandLine.{serve_app, AsksFor, AskForNothing, OnRefused};
 
 use super::answer::{file_argument, file_found, node_argument, owner_found};
@@ -10,8 +13,26 @@ use super::port::{MOST_GROUP_PORT, port_found, with_network_group};
 use super::{
     HelpTexts, Options, OptionsFault, ServeOptions, read_words, subcommand, with_argument,
 };
-use clap::Command;
+use clap::{Arg, ArgAction, ArgMatches, Command};
 use std::alloc::{AllocError, Global};
+
+/// `--log`, which has no value.
+fn log_argument<'a>(alloc: Global) -> Arg<'a>
+    ensures rule { rule_of result ≡ log_rule }
+    ensures local { result.global ≡ false }
+{
+    Arg::new(alloc, "log")
+        .long("log")
+        .action(ArgAction::SetTrue)
+        .help("Tells each change of the node in a line of JSON on standard error")
+}
+
+/// Whether a flag was given.
+fn flag_found(matches: &ArgMatches<'_>, name: &str) -> bool
+    ensures { FindsFlag (rows_of (found_of matches.now)) name.now result }
+{
+    matches.get_flag(name)
+}
 
 /// `serve`, with the arguments of a group on the network, of a node and of its file.
 pub(crate) fn serve_command<'a>(alloc: Global) -> Result<Command<'a>, AllocError>
@@ -21,14 +42,15 @@ pub(crate) fn serve_command<'a>(alloc: Global) -> Result<Command<'a>, AllocError
         bin_name: "desk serve",
         about: "Runs one node of a group on the network of this host, with its state in a file",
         after_help: "\
-Node I takes the other nodes at port PORT + I, and sessions at port PORT + 10 + I, all on 127.0.0.1.
-It ends with its standard input.
+Node I takes the other nodes at port PORT + I, and sessions at port PORT + 10 + I, on 127.0.0.1 or the
+I-th of --hosts, which wants a key where it is no loopback. It ends with its standard input.
 
 Example: desk serve --node 0 --nodes 3 --domain desk.example --port 4000 --file node-0.db",
     };
     let command = with_argument(subcommand(alloc, "serve", texts), node_argument(alloc));
     let filed = with_argument(with_network_group(alloc, command), file_argument(alloc));
-    with_hosts(alloc, filed)
+    let logged = with_argument(filed, log_argument(alloc));
+    with_hosts(alloc, logged)
 }
 
 /// `serve` asks for a node of a group, a first port, and the file of the node's state.
@@ -44,6 +66,7 @@ pub(crate) fn serve_options(alloc: Global, words: &[&str]) -> Result<Options, Op
     let hosts = text_found(alloc, &matches, "hosts")?;
     let key = text_found(alloc, &matches, "key")?;
     let client_key = session_key_found(alloc, &matches)?;
+    let log = flag_found(&matches, "log");
     Ok(Options::Serve(ServeOptions {
         owner,
         port,
@@ -51,5 +74,6 @@ pub(crate) fn serve_options(alloc: Global, words: &[&str]) -> Result<Options, Op
         hosts,
         key,
         client_key,
+        log,
     }))
 }

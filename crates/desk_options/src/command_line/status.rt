@@ -36,8 +36,9 @@ pub(crate) fn status_command<'a>(alloc: Global) -> Result<Command<'a>, AllocErro
         bin_name: "desk status",
         about: "Asks every node of a group for its place, and prints a line for each",
         after_help: "\
-The nodes are those of `desk serve` or `desk cluster` on this host, which were given --port PORT: node I is asked at
-port PORT + 10 + I. One that is silent for 3 seconds is down. Those that are up are asked once more at the end.
+The nodes are those of `desk serve` or `desk cluster`, which were given --port PORT: node I is asked at port
+PORT + 10 + I of this host, or of the I-th of --hosts. One that is silent for 3 seconds is down. Those that are up are
+asked once more at the end.
 The exit status is 0 where more than half of the nodes are at the greatest place that any node reported, and else 1.
 
 Example: desk status --port 4000 --nodes 3",

@@ -2,7 +2,7 @@ use Rattle.std.proofs.Common.{Some, map, option_map, ap, sym, ◌∙◌, codes, 
 use Rattle.std.proofs.lemmas.Slice.Eq.{bytes_eq-Decides}
 use Rattle.desk_options.proofs.Words.{first-map, always_refused, no_command, no_version, other_word, no_word}
 use Rattle.desk_options.proofs.command_line.options.Goals as goal
-use Rattle.desk_options.proofs.command_line.options.Goals.{in_default-via-in-Some-10+else-eq-10}
+use Rattle.desk_options.proofs.command_line.options.Goals.{in_default-via-in-Some-11+else-eq-11}
 use Rattle.desk_options.proofs.command_line.options.Goals.{in_default-via-in_default}
 
 pub replay_options-requires : goal.replay_options-requires
@@ -44,6 +44,11 @@ pub page_options-requires : goal.page_options-requires
 page_options-requires c =
     first-map (λ s. s.now) c.args.words.now ∙ ap (option_map (λ s. s.now)) (sym c.in-Some.ensures.value)
     ∙ ap Some ((bytes_eq-Decides c.in-Some.first.now.now (codes "page")).0 (sym c.if-eq-8.ensures))
+
+pub log_options-requires : goal.log_options-requires
+log_options-requires c =
+    first-map (λ s. s.now) c.args.words.now ∙ ap (option_map (λ s. s.now)) (sym c.in-Some.ensures.value)
+    ∙ ap Some ((bytes_eq-Decides c.in-Some.first.now.now (codes "log")).0 (sym c.if-eq-9.ensures))
 
 pub returns-in-Some-clause-asked : goal.returns-in-Some-clause-asked
 returns-in-Some-clause-asked c = c.replay_options.ensures.asked
@@ -94,14 +99,20 @@ pub returns-in-Some-8-clause-refused : goal.returns-in-Some-8-clause-refused
 returns-in-Some-8-clause-refused c = c.page_options.ensures.refused
 
 pub returns-in-Some-9-clause-asked : goal.returns-in-Some-9-clause-asked
-returns-in-Some-9-clause-asked c = inl (first-map (λ s. s.now) c.args.words.now
-    ∙ ap (option_map (λ s. s.now)) (sym c.in-Some.ensures.value)
-    ∙ ap Some ((bytes_eq-Decides c.in-Some.first.now.now (codes "--version")).0 (sym c.if-eq-9.ensures)))
+returns-in-Some-9-clause-asked c = c.log_options.ensures.asked
+
+pub returns-in-Some-9-clause-refused : goal.returns-in-Some-9-clause-refused
+returns-in-Some-9-clause-refused c = c.log_options.ensures.refused
 
 pub returns-in-Some-10-clause-asked : goal.returns-in-Some-10-clause-asked
-returns-in-Some-10-clause-asked c = inr (first-map (λ s. s.now) c.args.words.now
+returns-in-Some-10-clause-asked c = inl (first-map (λ s. s.now) c.args.words.now
     ∙ ap (option_map (λ s. s.now)) (sym c.in-Some.ensures.value)
-    ∙ ap Some ((bytes_eq-Decides c.in-Some.first.now.now (codes "-V")).0 (sym c.if-eq-10.ensures)))
+    ∙ ap Some ((bytes_eq-Decides c.in-Some.first.now.now (codes "--version")).0 (sym c.if-eq-10.ensures)))
+
+pub returns-in-Some-11-clause-asked : goal.returns-in-Some-11-clause-asked
+returns-in-Some-11-clause-asked c = inr (first-map (λ s. s.now) c.args.words.now
+    ∙ ap (option_map (λ s. s.now)) (sym c.in-Some.ensures.value)
+    ∙ ap Some ((bytes_eq-Decides c.in-Some.first.now.now (codes "-V")).0 (sym c.if-eq-11.ensures)))
 
 pub returns-in_default-clause-asked : goal.returns-in_default-clause-asked
 returns-in_default-clause-asked c = tt
@@ -110,7 +121,7 @@ pub returns-in_default-clause-refused : goal.returns-in_default-clause-refused
 returns-in_default-clause-refused c =
     let words = map (λ s. s.now) c.args.words.now in
     always_refused c.refused_words.result (elim c.in_default.branch [
-      | in_default-via-in-Some-10+else-eq-10 w ↦
+      | in_default-via-in-Some-11+else-eq-11 w ↦
           let one = w.in-Some.first.now.now in
           let given = first-map (λ s. s.now) c.args.words.now
           ∙ ap (option_map (λ s. s.now)) (sym w.in-Some.ensures.value) in
@@ -123,8 +134,9 @@ returns-in_default-clause-refused c =
           (other_word words one (codes "send") given w.if-eq-6.ensures)
           (other_word words one (codes "status") given w.if-eq-7.ensures)
           (other_word words one (codes "page") given w.if-eq-8.ensures)
-          (no_version words (other_word words one (codes "--version") given w.if-eq-9.ensures)
-          (other_word words one (codes "-V") given w.if-eq-10.ensures))
+          (other_word words one (codes "log") given w.if-eq-9.ensures)
+          (no_version words (other_word words one (codes "--version") given w.if-eq-10.ensures)
+          (other_word words one (codes "-V") given w.if-eq-11.ensures))
       | in_default-via-in_default w ↦
           no_word words (first-map (λ s. s.now) c.args.words.now
           ∙ ap (option_map (λ s. s.now)) (sym w.in_default.ensures.value))

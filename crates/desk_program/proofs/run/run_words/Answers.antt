@@ -68,3 +68,8 @@ pub returns-in-Page-clause-host_range : goal.returns-in-Page-clause-host_range
 returns-in-Page-clause-host_range g c =
     run_in_range _ (runs.Page c.in-Page.options)
     (subst (AsksFor _) (sym c.set_seed.ensures ∙ c.in-Page.is) c.in-Ok.ensures.asked)
+
+pub returns-in-Log-clause-host_range : goal.returns-in-Log-clause-host_range
+returns-in-Log-clause-host_range g c =
+    run_in_range _ (runs.Log c.in-Log.options)
+    (subst (AsksFor _) (sym c.set_seed.ensures ∙ c.in-Log.is) c.in-Ok.ensures.asked)

@@ -59,4 +59,5 @@ returns-clause-asked c =
       finds_hosts = rw (← read.1) c.in_ok-hosts.ensures.found;
       finds_key = rw (← read.1) c.in_ok-key.ensures.found;
       finds_client_key = rw (← read.1) c.in_ok-client_key.ensures.found;
+      finds_log = rw (← read.1) c.flag_found-log.ensures;
     }

@@ -1,0 +1,63 @@
+//! A port that is listened at, as its threads see it.
+
+use desk_admission::KeyedPort;
+use desk_events::{Door, Event, EventLog, Why};
+use std::io::{Read, Result};
+use std::sync::Wait;
+
+/// The key of who is let in at a port, where it has one, and where it is told who is refused there.
+pub(crate) struct WatchedDoor {
+    pub(crate) keyed: Option<KeyedPort>,
+    log: EventLog,
+    at: Door,
+}
+
+// It is written out, so that a caller does not prove again how each part is dropped.
+impl Drop for WatchedDoor {
+    fn drop(self) {
+        let WatchedDoor {
+            keyed: _,
+            log: _,
+            at: _,
+        } = self;
+    }
+}
+
+impl WatchedDoor {
+    pub(crate) fn new(keyed: Option<KeyedPort>, log: EventLog, at: Door) -> WatchedDoor {
+        WatchedDoor { keyed, log, at }
+    }
+
+    /// Tells that who connected was refused.
+    pub(crate) fn tell_refused<R: Wait>(&self, rt: &R, why: Why) {
+        self.log.tell(rt, Event::Refused { at: self.at, why });
+    }
+}
+
+/// A reader that notes whether a read of it failed.
+#[derive(Drop)]
+pub(crate) struct NotedInput<I: Read> {
+    inner: I,
+    pub(crate) has_failed: bool,
+}
+
+impl<I: Read> NotedInput<I> {
+    pub(crate) fn new(inner: I) -> NotedInput<I> {
+        NotedInput {
+            inner,
+            has_failed: false,
+        }
+    }
+}
+
+impl<I: Read> Read for NotedInput<I> {
+    ghost remaining = { λ noted. I.remaining noted.inner };
+
+    fn read(&mut self, buf: &mut [u8]) -> Result<usize> {
+        let read = self.inner.read(buf);
+        if read.is_err() {
+            self.has_failed = true;
+        }
+        read
+    }
+}

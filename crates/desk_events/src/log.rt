@@ -1,0 +1,150 @@
+//! Where the threads of a node put events.
+
+use crate::event::Event;
+use crossbeam_channel::{Receiver, Sender, TrySendError, bounded};
+use desk_types::WantOfMemory;
+use std::alloc::Global;
+use std::rt::Clock;
+use std::sync::atomic::{AtomicBool, AtomicU64, Ordering};
+use std::sync::{Arc, Wait};
+use std::time::Duration;
+
+/// The events that wait for their lines at most.
+pub const QUEUE_EVENTS: usize = 256;
+
+/// What both ends of the queue know.
+#[derive(Drop)]
+struct Known {
+    /// How many events found no room.
+    lost: AtomicU64,
+    /// Whether it was told last that the node lacks entries.
+    is_behind: AtomicBool,
+}
+
+/// One end of the queue of events.
+pub(crate) struct Putting {
+    to: Sender<Event>,
+    known: Arc<Known>,
+}
+
+// It is written out, so that a caller does not prove again how each part is dropped.
+impl Drop for Putting {
+    fn drop(self) {
+        let Putting { to: _, known: _ } = self;
+    }
+}
+
+/// The other end.
+pub(crate) struct Taking {
+    pub(crate) from: Receiver<Event>,
+    known: Arc<Known>,
+}
+
+// It is written out, so that a caller does not prove again how each part is dropped.
+impl Drop for Taking {
+    fn drop(self) {
+        let Taking { from: _, known: _ } = self;
+    }
+}
+
+impl Taking {
+    /// How many found no room since this was asked last.
+    pub(crate) fn lost(&self) -> u64 {
+        self.known.lost.swap(0, Ordering::SeqCst)
+    }
+}
+
+/// Where a thread tells the events of its node; of one without a log nothing is told.
+pub struct EventLog {
+    putting: Option<Putting>,
+}
+
+// It is written out, so that a caller does not prove again how each part is dropped.
+impl Drop for EventLog {
+    fn drop(self) {
+        let EventLog { putting: _ } = self;
+    }
+}
+
+impl EventLog {
+    /// That of a node without a log.
+    pub fn none() -> EventLog {
+        EventLog { putting: None }
+    }
+
+    /// Both ends of a new queue.
+    pub(crate) fn open(alloc: Global) -> Result<(EventLog, Taking), WantOfMemory> {
+        let (to, from): (Sender<Event>, Receiver<Event>) = bounded(alloc, QUEUE_EVENTS)?;
+        let known = Known {
+            lost: AtomicU64::new(0),
+            is_behind: AtomicBool::new(false),
+        };
+        let Ok(known) = Arc::new(alloc, known) else {
+            return Err(WantOfMemory);
+        };
+        let Ok(mine) = Arc::try_clone(&known) else {
+            return Err(WantOfMemory);
+        };
+        let log = EventLog {
+            putting: Some(Putting { to, known: mine }),
+        };
+        Ok((log, Taking { from, known }))
+    }
+
+    /// Whether anything is told.
+    pub fn tells(&self) -> bool {
+        self.putting.is_some()
+    }
+
+    /// The same log, for another thread. Err where memory is refused.
+    pub fn share(&self) -> Result<EventLog, WantOfMemory> {
+        let Some(Putting { to, known }) = &self.putting else {
+            return Ok(EventLog::none());
+        };
+        let to = to.clone()?;
+        match Arc::try_clone(known) {
+            Ok(known) => Ok(EventLog {
+                putting: Some(Putting { to, known }),
+            }),
+            Err(_) => Err(WantOfMemory),
+        }
+    }
+
+    /// Tells an event, where there is room for it. It does not wait for room.
+    pub fn tell<R: Wait>(&self, rt: &R, event: Event) {
+        let Some(Putting { to, known }) = &self.putting else {
+            return;
+        };
+        match to.try_send(rt, event) {
+            Ok(()) | Err(TrySendError::Disconnected(_)) => {}
+            Err(_) => {
+                known.lost.fetch_add(1, Ordering::SeqCst);
+            }
+        }
+    }
+
+    /// Tells that the node lacks entries after a place, where it was not told last.
+    pub fn tell_behind<R: Wait>(&self, rt: &R, place: u64) {
+        if let Some(Putting { to: _, known }) = &self.putting {
+            if !known.is_behind.swap(true, Ordering::SeqCst) {
+                self.tell(rt, Event::Behind { place });
+            }
+        }
+    }
+
+    /// Tells that the node has got entries up to a place, where it was told last that it lacks some.
+    pub fn tell_level<R: Wait>(&self, rt: &R, place: u64) {
+        if let Some(Putting { to: _, known }) = &self.putting {
+            if known.is_behind.swap(false, Ordering::SeqCst) {
+                self.tell(rt, Event::Level { place });
+            }
+        }
+    }
+
+    /// Tells the last event, and waits for room so long.
+    pub(crate) fn tell_last<R: Wait + Clock>(&self, rt: &R, event: Event, limit: Duration) {
+        if let Some(Putting { to, known: _ }) = &self.putting {
+            let _ = to.send_timeout(rt, event, limit);
+        }
+    }
+}

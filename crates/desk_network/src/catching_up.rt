@@ -1,0 +1,31 @@
+//! What is told of a node that lacks entries.
+
+use desk_events::EventLog;
+use desk_types::{Message, Packet};
+use std::sync::Wait;
+
+/// Sees by the packets of a node whether it asks for entries that it lacks.
+pub(crate) struct CatchingUp<R> {
+    rt: R,
+    log: EventLog,
+}
+
+// It is written out, so that a caller does not prove again how each part is dropped.
+impl<R: Drop> Drop for CatchingUp<R> {
+    fn drop(self) {
+        let CatchingUp { rt: _, log: _ } = self;
+    }
+}
+
+impl<R: Wait> CatchingUp<R> {
+    pub(crate) fn new(rt: R, log: EventLog) -> CatchingUp<R> {
+        CatchingUp { rt, log }
+    }
+
+    /// Sees a packet that goes out.
+    pub(crate) fn see(&self, packet: &Packet) {
+        if let Message::GetState { base, .. } = packet.message() {
+            self.log.tell_behind(&self.rt, *base);
+        }
+    }
+}

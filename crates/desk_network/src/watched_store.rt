@@ -1,0 +1,178 @@
+//! The store of a node whose saves are told.
+
+ghost use Rattle.std.specs.Prelude.{◌≡◌, ◌<◌};
+ghost use Rattle.desk_log.specs.Quorum.{primary};
+ghost use Rattle.desk_network.specs.Watched.{view_begun};
+
+use desk_events::{Event, EventLog};
+use desk_log::{Saved, StateStore};
+use desk_types::{Refusal, WantOfMemory};
+use std::rt::Clock;
+use std::sync::Wait;
+use std::time::Instant;
+
+/// A save that takes longer is told, in milliseconds.
+const SLOW_SAVE_MILLISECONDS: u64 = 100;
+
+/// What is told of the states that a node saves.
+pub(crate) struct SaveNews<R> {
+    rt: R,
+    log: EventLog,
+    /// How many nodes its group has.
+    nodes: u8,
+    /// The view that was told last, where one was.
+    view: Option<u64>,
+    /// How many entries the log had that was saved last, where one was.
+    entries: Option<u64>,
+    ghost some: { 0 < nodes },
+}
+
+// It is written out, so that a caller does not prove again how each part is dropped.
+impl<R: Drop> Drop for SaveNews<R> {
+    fn drop(self) {
+        let SaveNews {
+            rt: _,
+            log: _,
+            nodes: _,
+            view: _,
+            entries: _,
+        } = self;
+    }
+}
+
+/// The view of a saved state, where the node is normal in it, and it is not the one that was told last.
+fn view_begun(last: Option<u64>, saved: &Saved) -> Option<u64>
+    ensures { result ≡ view_begun last saved.now }
+{
+    if !saved.is_normal() || last == Some(saved.view()) {
+        return None;
+    }
+    Some(saved.view())
+}
+
+impl<R: Clock + Wait> SaveNews<R> {
+    pub(crate) fn new(rt: R, log: EventLog, nodes: u8) -> SaveNews<R>
+        requires { 0 < nodes }
+    {
+        SaveNews {
+            rt,
+            log,
+            nodes,
+            view: None,
+            entries: None,
+        }
+    }
+
+    /// The node that leads in a view.
+    fn leader(&self, view: u64) -> u8
+        ensures { result ≡ primary self.now.nodes view }
+    {
+        (view % self.nodes as u64) as u8
+    }
+
+    /// When a save begins, where that is of interest.
+    fn begin(&self) -> Option<Instant> {
+        if !self.log.tells() {
+            return None;
+        }
+        Instant::now(&self.rt).ok()
+    }
+
+    /// Tells of a save that took long.
+    fn tell_time(&self, begun: Instant) {
+        let Ok(passed) = begun.elapsed(&self.rt) else {
+            return;
+        };
+        let milliseconds = u64::try_from(passed.as_millis()).unwrap_or(u64::MAX);
+        if milliseconds > SLOW_SAVE_MILLISECONDS {
+            self.log.tell(&self.rt, Event::SlowSave { milliseconds });
+        }
+    }
+
+    /// Tells of a log that has grown, where the node lacked entries.
+    fn tell_entries(&mut self, entries: u64) {
+        if let Some(before) = self.entries {
+            if before < entries {
+                self.log.tell_level(&self.rt, entries);
+            }
+        }
+        self.entries = Some(entries);
+    }
+
+    /// Tells of a state that was saved, where there is a log.
+    fn tell_saved(&mut self, begun: Option<Instant>, saved: &Saved) {
+        if !self.log.tells() {
+            return;
+        }
+        if let Some(begun) = begun {
+            self.tell_time(begun);
+        }
+        self.tell_entries(saved.log().len());
+        if let Some(view) = view_begun(self.view, saved) {
+            self.view = Some(view);
+            let leader = self.leader(view);
+            self.log.tell(&self.rt, Event::View { view, leader });
+            // Who asked for entries at a change of view may have lacked none.
+            self.log.tell_level(&self.rt, saved.log().len());
+        }
+    }
+}
+
+/// A store of which it is told how long saves take, and in which views the node is normal.
+pub(crate) struct WatchedStore<S, R> {
+    store: S,
+    news: SaveNews<R>,
+}
+
+// It is written out, so that a caller does not prove again how each part is dropped.
+impl<S: Drop, R: Drop> Drop for WatchedStore<S, R> {
+    fn drop(self) {
+        let WatchedStore { store: _, news: _ } = self;
+    }
+}
+
+impl<S, R> WatchedStore<S, R> {
+    pub(crate) fn new(store: S, news: SaveNews<R>) -> WatchedStore<S, R>
+        ensures { result.store ≡ store }
+    {
+        WatchedStore { store, news }
+    }
+}
+
+impl<S, R: Drop> WatchedStore<S, R> {
+    /// The store.
+    pub(crate) fn into_store(self) -> S
+        ensures { result ≡ self.store }
+    {
+        let WatchedStore { store, news: _ } = self;
+        store
+    }
+}
+
+impl<S: StateStore, R: Clock + Wait> StateStore for WatchedStore<S, R> {
+    ghost last = { λ w. S.last w.store };
+
+    ghost stopped = { λ w. S.stopped w.store };
+
+    ghost keeps = { λ old new. S.keeps old.store new.store };
+
+    ghost leaves = { λ old saved new. S.leaves old.store saved new.store };
+
+    fn copy_last(&self) -> Result<Saved, WantOfMemory> {
+        self.store.copy_last()
+    }
+
+    fn save_state(&mut self, saved: &Saved, known: u64) -> Result<(), Refusal> {
+        let begun = self.news.begin();
+        let outcome = self.store.save_state(saved, known);
+        if outcome.is_ok() {
+            self.news.tell_saved(begun, saved);
+        }
+        outcome
+    }
+
+    ghost preserved_still = { λ w. S.preserved_still w.store };
+
+    ghost preserved_further = { λ old mid new first last.
+        S.preserved_further old.store mid.store new.store first last };
+}
