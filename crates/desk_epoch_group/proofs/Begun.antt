@@ -28,7 +28,7 @@ use Rattle.desk_epochs.specs.Epochs.{Epochs, joined_logs, epoch_of, GoesOver, Ne
 use Rattle.desk_epochs.specs.Histories.{committed_in, has_ended, epoch_log}
 use Rattle.desk_epochs.proofs.Epochs.{joined_push}
 use Rattle.desk_epochs.proofs.StepsAtUp.{with_log, goes_over}
-use Rattle.desk_epoch_node.specs.declared.packet.EpochPacket.{EpochPacket}
+use Rattle.desk_types.specs.declared.epoch_packet.EpochPacket.{EpochPacket}
 use Rattle.desk_epoch_node.specs.declared.step.EpochStep.{EpochStep}
 use Rattle.desk_epoch_node.specs.declared.step.EpochStep.TheVariants as steps
 use Rattle.desk_epoch_node.specs.Does.{BeginsAfter, IsOwn}

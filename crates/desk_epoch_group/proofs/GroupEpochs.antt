@@ -42,9 +42,9 @@ use Rattle.desk_epoch_node.specs.declared.deed.Deed.{Deed}
 use Rattle.desk_epoch_node.specs.declared.deed.Deed.TheVariants.{Ignore, Own, Answer, Refuse, Keep, Ask, Tell, Take}
 use Rattle.desk_epoch_node.specs.declared.event.EpochEvent.{EpochEvent}
 use Rattle.desk_epoch_node.specs.declared.event.EpochEvent.TheVariants as comes
-use Rattle.desk_epoch_node.specs.declared.packet.EpochPacket.{EpochPacket}
-use Rattle.desk_epoch_node.specs.declared.packet.Purpose.{Purpose}
-use Rattle.desk_epoch_node.specs.declared.packet.Purpose.TheVariants as purposes
+use Rattle.desk_types.specs.declared.epoch_packet.EpochPacket.{EpochPacket}
+use Rattle.desk_types.specs.declared.epoch_packet.Purpose.{Purpose}
+use Rattle.desk_types.specs.declared.epoch_packet.Purpose.TheVariants as purposes
 use Rattle.desk_epoch_node.specs.declared.step.EpochStep.{EpochStep}
 use Rattle.desk_epoch_node.specs.declared.step.EpochStep.TheVariants as steps
 use Rattle.desk_epoch_node.specs.Deeds.{deed, deed_by, deed_here, looks_back, request_deed, packet_deed, taking}

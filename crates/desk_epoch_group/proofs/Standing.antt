@@ -14,9 +14,9 @@ use Rattle.desk_world.specs.Group.{IsNode}
 use Rattle.desk_world.specs.World.{world, first_state, node_of_world}
 use Rattle.desk_epochs.specs.Epochs.{Epochs, first_epochs, joined_logs}
 use Rattle.desk_epochs.proofs.Epochs.{leads_on}
-use Rattle.desk_epoch_node.specs.declared.packet.EpochPacket.{EpochPacket}
-use Rattle.desk_epoch_node.specs.declared.packet.Purpose.{Purpose}
-use Rattle.desk_epoch_node.specs.declared.packet.Purpose.TheVariants as purposes
+use Rattle.desk_types.specs.declared.epoch_packet.EpochPacket.{EpochPacket}
+use Rattle.desk_types.specs.declared.epoch_packet.Purpose.{Purpose}
+use Rattle.desk_types.specs.declared.epoch_packet.Purpose.TheVariants as purposes
 use Rattle.desk_epoch_node.specs.EpochValue.{EpochValue}
 use Rattle.desk_epoch_node.specs.PastRows.{StandFor}
 use Rattle.desk_epoch_group.specs.Agreement.{Lead, ending_after}

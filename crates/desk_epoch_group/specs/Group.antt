@@ -8,8 +8,8 @@ use Rattle.desk_node.specs.Heard.{silence}
 use Rattle.desk_epochs.specs.Epochs.{joined_logs}
 use Rattle.desk_epoch_node.specs.declared.event.EpochEvent.{EpochEvent}
 use Rattle.desk_epoch_node.specs.declared.event.EpochEvent.TheVariants as comes
-use Rattle.desk_epoch_node.specs.declared.packet.EpochPacket.{EpochPacket}
-use Rattle.desk_epoch_node.specs.declared.packet.Purpose.TheVariants as purposes
+use Rattle.desk_types.specs.declared.epoch_packet.EpochPacket.{EpochPacket}
+use Rattle.desk_types.specs.declared.epoch_packet.Purpose.TheVariants as purposes
 use Rattle.desk_epoch_node.specs.declared.step.EpochStep.{EpochStep}
 use Rattle.desk_epoch_node.specs.declared.step.EpochStep.TheVariants as steps
 use Rattle.desk_epoch_node.specs.Deeds.{deed}

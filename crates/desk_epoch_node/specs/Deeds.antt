@@ -15,8 +15,8 @@ use Rattle.desk_epoch_node.specs.declared.deed.Deed.{Deed}
 use Rattle.desk_epoch_node.specs.declared.deed.Deed.TheVariants.{Ignore, Own, Answer, Refuse, Keep, Ask, Tell, Take}
 use Rattle.desk_epoch_node.specs.declared.event.EpochEvent.{EpochEvent}
 use Rattle.desk_epoch_node.specs.declared.event.EpochEvent.TheVariants as comes
-use Rattle.desk_epoch_node.specs.declared.packet.Purpose.{Purpose}
-use Rattle.desk_epoch_node.specs.declared.packet.Purpose.TheVariants as purposes
+use Rattle.desk_types.specs.declared.epoch_packet.Purpose.{Purpose}
+use Rattle.desk_types.specs.declared.epoch_packet.Purpose.TheVariants as purposes
 use Rattle.desk_epoch_node.specs.EpochValue.{EpochValue, has_next, reaches_end}
 use Rattle.desk_epoch_node.specs.PastRows.{one_log_admission}
 

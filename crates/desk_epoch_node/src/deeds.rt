@@ -10,10 +10,9 @@ ghost use Rattle.desk_epoch_node.specs.PastRows.{StandFor};
 use crate::deed::Deed;
 use crate::epoch_node::EpochNode;
 use crate::event::EpochEvent;
-use crate::packet::{EpochPacket, Purpose};
 use desk_log::Admission;
 use desk_node::Event;
-use desk_types::{Entry, Message, Packet, Refusal};
+use desk_types::{Entry, EpochPacket, Message, Packet, Purpose, Refusal};
 
 /// The answer that a request stands at a place of past logs.
 fn answer(entry: Entry, place: u64) -> Deed

@@ -1,7 +1,6 @@
 //! What comes to a node over epochs.
 
-use crate::packet::EpochPacket;
-use desk_types::Entry;
+use desk_types::{Entry, EpochPacket};
 
 /// What comes to a node over epochs.
 #[derive(Drop)]

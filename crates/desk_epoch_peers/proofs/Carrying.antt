@@ -12,7 +12,7 @@ use Rattle.desk_frames.proofs.Receiving.{frames_append}
 use Rattle.desk_output.specs.Prefixes.{AppendsPrefix}
 use Rattle.desk_peers.specs.Links.{StartsEmpty, Closes}
 use Rattle.desk_mailbox.specs.declared.rule.SentItem.{SentItem}
-use Rattle.desk_epoch_node.specs.declared.packet.EpochPacket.{EpochPacket}
+use Rattle.desk_types.specs.declared.epoch_packet.EpochPacket.{EpochPacket}
 use Rattle.desk_epoch_peers.specs.declared.header.EpochHeader.{EpochHeader}
 use Rattle.desk_epoch_peers.specs.Headers.{header_of, header_spelling}
 use Rattle.desk_epoch_peers.specs.Incoming.{under}

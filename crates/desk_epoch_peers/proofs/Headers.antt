@@ -12,8 +12,8 @@ use Rattle.desk_codec.specs.Ranges.{FitsMessage}
 use Rattle.desk_codec.specs.Spelling.{long, packet_spelling, frame_spelling, FramesBeginNone, PacketsFit}
 use Rattle.desk_frames.specs.Stream.{AreFit, announced_length, frames_spelling}
 use Rattle.desk_frames.proofs.FirstFrames.{announced_is, frame_length}
-use Rattle.desk_epoch_node.specs.declared.packet.Purpose.{Purpose}
-use Rattle.desk_epoch_node.specs.declared.packet.Purpose.TheVariants.{Step, Ask, Tell}
+use Rattle.desk_types.specs.declared.epoch_packet.Purpose.{Purpose}
+use Rattle.desk_types.specs.declared.epoch_packet.Purpose.TheVariants.{Step, Ask, Tell}
 use Rattle.desk_epoch_peers.specs.declared.header.EpochHeader.{EpochHeader}
 use Rattle.desk_epoch_peers.specs.declared.header.TheConstants.{HEADER_MARK}
 use Rattle.desk_epoch_peers.specs.Headers.{purpose_number, purpose_of, is_step, is_first, header_bytes}

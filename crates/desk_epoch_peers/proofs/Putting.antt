@@ -12,7 +12,7 @@ use Rattle.desk_frames.specs.Received.{ForFirst}
 use Rattle.desk_frames.specs.Stream.{AreFit, BeginsNone, frames_spelling}
 use Rattle.desk_frames.proofs.Cuttings.{AreFit-append}
 use Rattle.desk_frames.proofs.Receiving.{HasCome, IsReadRefused, frames_append}
-use Rattle.desk_epoch_node.specs.declared.packet.EpochPacket.{EpochPacket}
+use Rattle.desk_types.specs.declared.epoch_packet.EpochPacket.{EpochPacket}
 use Rattle.desk_epoch_peers.specs.declared.header.EpochHeader.{EpochHeader}
 use Rattle.desk_epoch_peers.specs.Incoming.{is_put, under, HasPutUnder, HasPutOneUnder}
 use Rattle.desk_epoch_peers.specs.Incoming.{HasFramesAfter, EndsFrames}

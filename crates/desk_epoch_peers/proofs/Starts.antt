@@ -22,9 +22,9 @@ use Rattle.desk_frames.specs.Stream.{Holds, Fed, IsFeedRefusal, announced_length
 use Rattle.desk_frames.proofs.Cuttings.{holds_none, stays_bad}
 use Rattle.desk_frames.proofs.FirstFrames.{bad_length, frame_length}
 use Rattle.desk_peers.specs.Incoming.{IsTakeFault}
-use Rattle.desk_epoch_node.specs.declared.packet.EpochPacket.{EpochPacket}
-use Rattle.desk_epoch_node.specs.declared.packet.Purpose.{Purpose}
-use Rattle.desk_epoch_node.specs.declared.packet.Purpose.TheVariants.{Step, Ask, Tell}
+use Rattle.desk_types.specs.declared.epoch_packet.EpochPacket.{EpochPacket}
+use Rattle.desk_types.specs.declared.epoch_packet.Purpose.{Purpose}
+use Rattle.desk_types.specs.declared.epoch_packet.Purpose.TheVariants.{Step, Ask, Tell}
 use Rattle.desk_epoch_peers.specs.declared.header.EpochHeader.{EpochHeader}
 use Rattle.desk_epoch_peers.specs.declared.header.TheConstants.{HEADER_MARK, HEADER_BYTES, MARK_BYTES, STEP, ASK, TELL}
 use Rattle.desk_epoch_peers.specs.Headers.{purpose_number, purpose_of, is_first, header_bytes, header_spelling}

@@ -6,9 +6,9 @@ use Rattle.desk_types.specs.declared.packet.Message.{Message}
 use Rattle.desk_codec.specs.Ranges.{FitsMessage}
 use Rattle.desk_codec.specs.Spelling.{long, frame_spelling}
 use Rattle.desk_frames.specs.Stream.{AreFit, frames_spelling}
-use Rattle.desk_epoch_node.specs.declared.packet.EpochPacket.{EpochPacket}
-use Rattle.desk_epoch_node.specs.declared.packet.Purpose.{Purpose}
-use Rattle.desk_epoch_node.specs.declared.packet.Purpose.TheVariants.{Step, Ask, Tell}
+use Rattle.desk_types.specs.declared.epoch_packet.EpochPacket.{EpochPacket}
+use Rattle.desk_types.specs.declared.epoch_packet.Purpose.{Purpose}
+use Rattle.desk_types.specs.declared.epoch_packet.Purpose.TheVariants.{Step, Ask, Tell}
 use Rattle.desk_epoch_peers.specs.declared.header.EpochHeader.{EpochHeader}
 use Rattle.desk_epoch_peers.specs.declared.header.TheConstants.{HEADER_MARK, STEP, ASK, TELL}
 

@@ -9,9 +9,9 @@ use Rattle.desk_types.specs.declared.refusal.Refusal.{Refusal}
 use Rattle.desk_types.specs.declared.refusal.Refusal.TheVariants as refusals
 use Rattle.desk_frames.specs.Received.{HasNoFrame}
 use Rattle.desk_frames.specs.Stream.{AreFit, BeginsNone, frames_spelling}
-use Rattle.desk_epoch_node.specs.declared.packet.EpochPacket.{EpochPacket}
-use Rattle.desk_epoch_node.specs.declared.packet.Purpose.{Purpose}
-use Rattle.desk_epoch_node.specs.declared.packet.Purpose.TheVariants.{Step, Ask, Tell}
+use Rattle.desk_types.specs.declared.epoch_packet.EpochPacket.{EpochPacket}
+use Rattle.desk_types.specs.declared.epoch_packet.Purpose.{Purpose}
+use Rattle.desk_types.specs.declared.epoch_packet.Purpose.TheVariants.{Step, Ask, Tell}
 use Rattle.desk_peers.specs.Incoming.{comes_from}
 use Rattle.desk_epoch_peers.specs.declared.header.EpochHeader.{EpochHeader}
 use Rattle.desk_epoch_peers.specs.declared.header.TheConstants.{MARK_BYTES}

@@ -4,7 +4,7 @@ use Rattle.std.specs.List.{flat_map, items_where_true}
 use Rattle.std.specs.Option.{option_to_list}
 use Rattle.desk_types.specs.declared.packet.Message.{Message}
 use Rattle.desk_frames.specs.Stream.{frames_spelling}
-use Rattle.desk_epoch_node.specs.declared.packet.EpochPacket.{EpochPacket}
+use Rattle.desk_types.specs.declared.epoch_packet.EpochPacket.{EpochPacket}
 use Rattle.desk_epoch_peers.specs.Headers.{header_spelling}
 use Rattle.desk_epoch_peers.specs.Incoming.{under}
 use Rattle.desk_epoch_peers.specs.declared.header.EpochHeader.{EpochHeader}

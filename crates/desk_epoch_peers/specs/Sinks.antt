@@ -1,6 +1,6 @@
 -- One sender of a mailbox, over a time.
 use Rattle.std.proofs.Common.{refl, ◌∙◌}
-use Rattle.desk_epoch_node.specs.declared.packet.EpochPacket.{EpochPacket}
+use Rattle.desk_types.specs.declared.epoch_packet.EpochPacket.{EpochPacket}
 use Rattle.desk_mailbox.specs.declared.sender.Sender.{Sender}
 use Rattle.desk_mailbox.specs.Ends.{IsSameSender}
 

@@ -8,9 +8,8 @@ ghost use Rattle.desk_epoch_peers.specs.Headers.{header_of, header_bytes, header
 ghost use Rattle.desk_epoch_peers.specs.Headers.{purpose_of, BeginsNoHeader, FitsHeader};
 ghost use Rattle.desk_epoch_peers.specs.declared.header.TheConstants.{HEADER_BYTES, HEADER_MARK, MARK_BYTES};
 
-use desk_epoch_node::{EpochPacket, Purpose};
 use desk_output::write_text;
-use desk_types::Refusal;
+use desk_types::{EpochPacket, Purpose, Refusal};
 use std::io::Write;
 
 /// The number that a header begins with, in four bytes. No frame is as long.

@@ -13,9 +13,8 @@ use crate::header::EpochHeader;
 use crate::sink::PacketSink;
 use crate::start::{StreamStart, read_start, start_frames};
 use desk_codec::laws::spellings;
-use desk_epoch_node::{EpochPacket, Purpose};
 use desk_frames::read_packets;
-use desk_types::{Message, Packet, Refusal};
+use desk_types::{EpochPacket, Message, Packet, Purpose, Refusal};
 use std::alloc::Global;
 use std::io::Read;
 

@@ -8,11 +8,10 @@ ghost use Rattle.desk_epoch_peers.specs.Links.{text_for, IsSentUnder, IsEpochSen
 ghost use Rattle.desk_epoch_peers.specs.Links.{IsReadyFor, IsUnder, EndsEpochLink};
 
 use crate::header::{EpochHeader, write_header};
-use desk_epoch_node::EpochPacket;
 use desk_frames::write_packet;
 use desk_output::flush;
 use desk_peers::Connect;
-use desk_types::Refusal;
+use desk_types::{EpochPacket, Refusal};
 use std::alloc::Global;
 use std::io::Write;
 use std::marker::Model;

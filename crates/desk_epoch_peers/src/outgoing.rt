@@ -1,15 +1,15 @@
 //! Packets for another node.
 
 ghost use Rattle.std.specs.Prelude.{map, ◌≡◌, ◌++◌, List};
-ghost use Rattle.desk_epoch_node.specs.declared.packet.EpochPacket.{EpochPacket as APacket};
+ghost use Rattle.desk_types.specs.declared.epoch_packet.EpochPacket.{EpochPacket as APacket};
 ghost use Rattle.desk_mailbox.specs.declared.rule.SentItem.{SentItem};
 ghost use Rattle.desk_mailbox.specs.Ends.{taken_by, IsSameTaker};
 ghost use Rattle.desk_epoch_peers.specs.Outgoing.{HasCarriedUnder};
 
 use crate::link::EpochLink;
-use desk_epoch_node::EpochPacket;
 use desk_mailbox::Taker;
 use desk_peers::Connect;
+use desk_types::EpochPacket;
 use std::alloc::Global;
 use std::sync::Wait;
 

@@ -2,14 +2,14 @@
 
 ghost use Rattle.std.specs.Prelude.{◌≡◌};
 
-use desk_epoch_node::EpochPacket;
 use desk_mailbox::Sender;
+use desk_types::EpochPacket;
 use std::sync::Wait;
 
 /// Where packets of peers are put, in order.
 pub trait PacketSink {
     ghost use Rattle.std.specs.Prelude.{◌≡◌, ◌∷◌, ◌++◌, [], List, if◌then◌else◌};
-    ghost use Rattle.desk_epoch_node.specs.declared.packet.EpochPacket.{EpochPacket as APacket};
+    ghost use Rattle.desk_types.specs.declared.epoch_packet.EpochPacket.{EpochPacket as APacket};
 
     /// What was put.
     ghost put_in: { Self → List APacket };

@@ -3,10 +3,12 @@
 ghost use Rattle.std.specs.Prelude.{◌<◌};
 
 use desk_codec::get_entry;
-use desk_epoch_node::{EpochEvent, EpochNode, EpochPacket, EpochStep, PastLogs, Purpose};
+use desk_epoch_node::{EpochEvent, EpochNode, EpochStep, PastLogs};
 use desk_log::Saved;
 use desk_node::Node;
-use desk_types::{Domain, Entry, Items, Message, Packet, Refusal, WantOfMemory};
+use desk_types::{
+    Domain, Entry, EpochPacket, Items, Message, Packet, Purpose, Refusal, WantOfMemory,
+};
 use std::alloc::{AllocError, Global};
 
 /// What stands after the client and the number of a request to open an incident for a fire at 12 Elm St.

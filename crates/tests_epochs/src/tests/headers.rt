@@ -1,9 +1,8 @@
 //! Headers of connections between nodes over epochs: streams that are read, and what connections carry.
 
-use desk_epoch_node::{EpochPacket, Purpose};
 use desk_epoch_peers::{EpochLink, PacketSink, take_epoch_packets};
 use desk_peers::Connect;
-use desk_types::{Message, Packet};
+use desk_types::{EpochPacket, Message, Packet, Purpose};
 use std::alloc::Global;
 use tests_streams::{Sink, Source};
 

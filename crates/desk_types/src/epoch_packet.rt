@@ -1,6 +1,6 @@
 //! Packets between nodes that may be in different epochs.
 
-use desk_types::Packet;
+use crate::packet::Packet;
 
 /// What a packet between nodes over epochs is for.
 #[derive(Clone, Copy, Debug, PartialEq, Eq)]
