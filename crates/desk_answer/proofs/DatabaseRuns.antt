@@ -16,14 +16,13 @@ use Rattle.desk_log.specs.SavedValue.{SavedValue}
 use Rattle.desk_node.specs.Heard.{silence, Says}
 use Rattle.desk_node.specs.NodeValue.{NodeValue, node_from}
 use Rattle.desk_types.specs.declared.owner.Owner.{Owner}
-use Rattle.desk_saved.specs.Contents.{schema_of, trees_of}
+use Rattle.desk_naming.specs.Contents.{schema_of, trees_of}
 use Rattle.desk_saved.specs.DeskTables.{Layout, KeepsOthers}
 use Rattle.desk_saved.proofs.SeveralStatements.{others_same, others_then}
 use Rattle.desk_saved.specs.File.{HoldsFile, HasNoTable}
 use Rattle.desk_saved.specs.NewTables.{Becomes, HasRoomForTables}
 use Rattle.desk_saved.specs.OldFile.{HasOldTables, HasRoomForClients, GrowsTo}
-use Rattle.desk_saved.specs.Opening.{HasOpened}
-use Rattle.desk_saved.specs.AfterRefusal.{IsOpeningRefusal}
+use Rattle.desk_saved.specs.Opening.{HasOpened, IsOpeningRefusal}
 use Rattle.desk_saved.specs.SchemaRefusals.{IsDeskSchema}
 use Rattle.desk_saved.specs.Store.{StoreValue}
 use Rattle.desk_saved.proofs.DeskTables.{desk_has}

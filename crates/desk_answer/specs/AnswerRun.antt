@@ -12,14 +12,14 @@ use Rattle.desk_frames.specs.Stream.{frames_spelling, BeginsNone}
 use Rattle.desk_log.specs.SavedValue.{SavedValue, initial_saved}
 use Rattle.desk_node.specs.State.{State}
 use Rattle.desk_types.specs.declared.owner.Owner.{Owner}
-use Rattle.desk_saved.specs.Contents.{schema_of, trees_of}
+use Rattle.desk_naming.specs.Contents.{schema_of, trees_of}
 use Rattle.desk_saved.specs.DeskTables.{Layout}
 use Rattle.desk_saved.specs.File.{IsState, HasFile, HoldsFile, HasNoTable}
 use Rattle.desk_saved.specs.NewTables.{Becomes}
 use Rattle.desk_saved.specs.OldFile.{HasOldTables, HasOldFile, IsOldState, GrowsTo}
-use Rattle.desk_saved.specs.Opening.{HasRefused}
+use Rattle.desk_saved.specs.Opening.{HasRefused, IsOpeningRefusal}
 use Rattle.desk_saved.specs.Saving.{KeepsTables}
-use Rattle.desk_saved.specs.AfterRefusal.{IsOpeningRefusal, ShowsAsBefore}
+use Rattle.desk_naming.specs.AfterRefusal.{ShowsAsBefore}
 use Rattle.desk_types.specs.Refusal.{IsStoreRefusal, IsWritingFault}
 use Rattle.desk_answer.specs.AnswerFile.{LeavesRows, IsEither}
 use Rattle.desk_answer.specs.AnswerStream.{sent_for, after_packets, IsAnswerFault}
@@ -54,7 +54,7 @@ pub record AnswersButLast (Writes : List ℕ → Type 0) (owner : Owner) (first 
   pub answers : AnswersAll Writes owner first between most
   pub last_is : last ≡ saved_after owner first packets
 
--- The database had the tables of a desk, and their rows were those of `first`. Of this desk it is kept what is asked.
+-- The database had the tables of a desk, and their rows were those of `first`. This desk preserves what is asked.
 pub record Continues {S : Type 0} (g : Ghosts S) (owner : Owner) (before after : Held S) (first : SavedValue)
     (Preserved : Layout → Type 0) : Type 0 where
   pub desk : Layout
@@ -63,7 +63,7 @@ pub record Continues {S : Type 0} (g : Ghosts S) (owner : Owner) (before after :
   pub preserved : IsTrue (state g before).is_open → Preserved desk
 
 -- It had the tables of version 1, whose rows were those of `first`, and got the one of the clients beside them. Of the
--- desk that it has then it is kept what is asked.
+-- desk that it has then what is asked is preserved.
 pub record Migrates {S : Type 0} (g : Ghosts S) (owner : Owner) (before after : Held S) (first : SavedValue)
     (Preserved : Layout → Type 0) : Type 0 where
   pub old : HasOldTables (schema_of g before)
@@ -87,7 +87,7 @@ abbrev pub KeepsDesk : {S : Type 0} → Ghosts S → Owner → Held S → Held S
 KeepsDesk g owner before after first Preserved = Continues g owner before after first Preserved
     ⊎ (Migrates g owner before after first Preserved ⊎ Begins g before first Preserved)
 
--- The node's state was kept: the database has now what it saved last, and the tables of others as they were.
+-- The node's state was preserved: the database has now what it saved last, and the tables of others as they were.
 abbrev pub KeepsState : {S : Type 0} → Ghosts S → Owner → Held S → Held S → SavedValue → SavedValue → Type 0
 KeepsState g owner before after first last =
     KeepsDesk g owner before after first (λ d. HoldsFile g d after owner last × KeepsTables g d before after)
@@ -98,7 +98,7 @@ abbrev pub LeavesState : {S : Type 0} → Ghosts S → Owner → Held S → Held
 LeavesState g owner before after first between last =
     KeepsDesk g owner before after first (λ d. LeavesRows g d before after owner (IsEither between last))
 
--- The node answered, and its state after the packets was kept.
+-- The node answered, and its state after the packets was preserved.
 pub record ServesOver {S : Type 0} (g : Ghosts S) (owner : Owner) (before after : Held S) (input left : Option (List ℕ))
     (Writes : List ℕ → Type 0) (rest : List ℕ) : Type 0 where
   pub first : SavedValue
@@ -149,8 +149,8 @@ pub record HasEndedRunBy {S : Type 0} (g : Ghosts S) (r : Refusal) (owner : Owne
   pub cut_short : IsWritingFault r → (r ≡ refusals.WantOfMemory) × IsUntouched input left old new
       × (HasCleanDisk (state g after) → (after ≡ before) ⊎ IsUnchanged (state g before) (state g after))
       ⊎ (rest : List ℕ) × ServesOver g owner before after input left (AppendsPrefix old new) rest
-  -- It is 45 only where the open is refused so: one of the tables is there, and the rows are those of no state of the
-  -- node; nothing is changed then.
+  -- It is `WrongFile` only where the open is refused so: one of the tables is there, and the rows are those of no state
+  -- of the node; nothing is changed then.
   pub wrong_file : r ≡ refusals.WrongFile → IsUntouched input left old new × HasRefused g before owner after r
   -- The store runs when a run begins, so no run is ended as by one that has stopped.
   pub running : r ≢ refusals.NodeStopped

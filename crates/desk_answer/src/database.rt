@@ -9,11 +9,11 @@ ghost use Rattle.desk_types.specs.declared.refusal.Refusal.TheVariants as refusa
 ghost use Rattle.desk_frames.specs.Received.{HasReceived, HasNoFrame};
 ghost use Rattle.desk_frames.specs.Stream.{BeginsNone};
 ghost use Rattle.desk_log.specs.SavedValue.{SavedValue};
-ghost use Rattle.desk_saved.specs.Contents.{schema_of};
+ghost use Rattle.desk_naming.specs.Contents.{schema_of};
 ghost use Rattle.desk_saved.specs.File.{HasNoTable, IsFileOf};
 ghost use Rattle.desk_saved.specs.OldFile.{HasOldTables, IsOldFileOf};
 ghost use Rattle.desk_saved.specs.NewTables.{HasRoomForTables};
-ghost use Rattle.desk_saved.specs.AfterRefusal.{IsOpeningRefusal};
+ghost use Rattle.desk_saved.specs.Opening.{IsOpeningRefusal};
 ghost use Rattle.desk_saved.specs.Saving.{KeepsFile};
 ghost use Rattle.desk_saved.specs.SchemaRefusals.{HasTables, IsReferredTo};
 ghost use Rattle.desk_types.specs.Refusal.{IsStoreRefusal};
@@ -87,9 +87,10 @@ fn answer_from_last<R: Read, W: Write, S: Alter>(
 /// none of the three tables gets them, with the state of a node that has done nothing; one that has the two of version
 /// 1 gets the third, and its state goes on. The state after each packet is saved before any of its answers is written.
 ///
-/// It ends early where memory is refused (40), where the database answers a fault (41), at bytes that no frame begins
-/// with (42), at a read that fails, an end inside a frame, and after 4,294,967,295 reads (43), at a write that fails or
-/// takes no byte (44), and where the tables hold no state of the node (45).
+/// It ends early where memory is refused (`WantOfMemory`), where the database answers a fault (`StoreFault`), at bytes
+/// that no frame begins with (`FrameFault`), at a read that fails, an end inside a frame, and after 4,294,967,295 reads
+/// (`ReadFault`), at a write that fails or takes no byte (`WriteFault`), and where the tables hold no state of the node
+/// (`WrongFile`).
 pub fn answer_database<R: Read, W: Write, S: Alter>(
     alloc: Global,
     reader: &mut R,
@@ -107,8 +108,8 @@ pub fn answer_database<R: Read, W: Write, S: Alter>(
         (Appends (W.contents writer.old) (W.contents writer.new)) []) }
     ensures err { IfErr result.result (λ r. HasEndedRunBy S.Store r owner connection result.connection
         (R.remaining reader.old) (R.remaining reader.new) (W.contents writer.old) (W.contents writer.new)) }
-    // Where one of the tables is there, and the rows are those of no state of the node, it ends by 40, 41 or 45 before
-    // anything is read.
+    // Where one of the tables is there, and the rows are those of no state of the node, it ends by `WantOfMemory`,
+    // `StoreFault` or `WrongFile` before anything is read.
     ensures refused { ¬ HasNoTable (schema_of S.Store connection)
         → ((s : SavedValue) → ¬ IsFileOf owner (state S.Store connection).now s)
         → ((s : SavedValue) → ¬ IsOldFileOf owner (state S.Store connection).now s)
@@ -116,8 +117,8 @@ pub fn answer_database<R: Read, W: Write, S: Alter>(
         → IsErr result.result × IfErr result.result IsOpeningRefusal
         × IsUntouched (R.remaining reader.old) (R.remaining reader.new)
         (W.contents writer.old) (W.contents writer.new) }
-    // Tables that are neither the three of a desk nor the two of version 1 are 45 at once. Where they are the three but
-    // for a foreign key that names one, or where there is none and no room for them, it is 41.
+    // Tables that are neither the three of a desk nor the two of version 1 are `WrongFile` at once. Where they are the
+    // three but for a foreign key that names one, or where there is none and no room for them, it is `StoreFault`.
     ensures other { ¬ HasNoTable (schema_of S.Store connection)
         → ¬ HasTables (schema_of S.Store connection)
         → ¬ HasOldTables (schema_of S.Store connection)

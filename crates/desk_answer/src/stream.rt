@@ -58,9 +58,10 @@ fn answer_frames<R: Read, W: Write, S: Alter>(
 /// saved, and then the frames of what it sends are written, without their receivers, and the writer is flushed: nothing
 /// is sent whose state is not saved.
 ///
-/// It ends early where memory is refused (40), where the state cannot be saved (41, or 34 where the file is closed
-/// already), at bytes that no frame begins with (42), at a read that fails, an end inside a frame, and after
-/// 4,294,967,295 reads (43), and at a write that fails or takes no byte (44).
+/// It ends early where memory is refused (`WantOfMemory`), where the state cannot be saved (`StoreFault`, or
+/// `NodeStopped` where the file is closed already), at bytes that no frame begins with (`FrameFault`), at a read that
+/// fails, an end inside a frame, and after 4,294,967,295 reads (`ReadFault`), and at a write that fails or takes no
+/// byte (`WriteFault`).
 pub fn answer_stream<R: Read, W: Write, S: Alter>(
     alloc: Global,
     reader: &mut R,

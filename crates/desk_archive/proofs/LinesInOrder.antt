@@ -75,8 +75,8 @@ pub nothing_first : (a : Option (List ℕ)) (entries : List Entry) → AppendsFi
 nothing_first a entries = (0, [], omega arith, refl, ([], [], refl, appends_none a))
 
 -- what is behind the first k
-pub behind_is : (k : ℕ) (entries : List Entry) → take (length entries - k) (drop k entries) ≡ drop k entries
-behind_is k entries = take_all (length entries - k) (drop k entries) (omega (arith, length-drop k entries))
+pub rest_after_is : (k : ℕ) (entries : List Entry) → take (length entries - k) (drop k entries) ≡ drop k entries
+rest_after_is k entries = take_all (length entries - k) (drop k entries) (omega (arith, length-drop k entries))
 
 -- where no more entries are left out than there are, those from a place on are left
 pub from_is : (past from committed : ℕ) (entries : List Entry) → committed ≤ length entries

@@ -2,10 +2,10 @@
 use Rattle.std.proofs.Common.{codes, IsTrue, subst, sym}
 use Rattle.sqlite.specs.Effect.{Database}
 use Rattle.desk_saved.specs.File.{HasNoTable, bears}
-use Rattle.desk_saved.specs.Named.{NamesOwner}
-use Rattle.desk_saved.specs.Tables.{node_table}
-use Rattle.desk_saved.specs.TableInSchema.{StandsAt}
-use Rattle.desk_saved.specs.declared.named.NamedOwner.{NamedOwner}
+use Rattle.desk_naming.specs.Named.{NamesOwner}
+use Rattle.desk_naming.specs.Tables.{node_table}
+use Rattle.desk_naming.specs.TableInSchema.{StandsAt}
+use Rattle.desk_naming.specs.declared.named.NamedOwner.{NamedOwner}
 use Rattle.desk_saved.proofs.DeskTables.{borne}
 
 pub named_there : (db : Database) (o : NamedOwner) → NamesOwner db o → ¬ HasNoTable db.schema

@@ -8,7 +8,7 @@ use Rattle.desk_types.specs.declared.owner.Owner.{Owner}
 use Rattle.desk_types.specs.declared.refusal.Refusal.{Refusal}
 use Rattle.desk_types.specs.declared.refusal.Refusal.TheVariants as refusals
 use Rattle.desk_log.specs.SavedValue.{SavedValue, committed_entries, initial_saved}
-use Rattle.desk_saved.specs.Contents.{schema_of}
+use Rattle.desk_naming.specs.Contents.{schema_of}
 use Rattle.desk_saved.specs.File.{HasNoTable, IsFileOf}
 use Rattle.desk_saved.specs.OldFile.{IsOldFileOf}
 use Rattle.desk_archive.specs.Lines.{AppendsLines, AppendsFirstLines, entries_from}

@@ -6,8 +6,8 @@ ghost use Rattle.sqlite.specs.State.{HasCleanDisk, IsUnchanged};
 ghost use Rattle.sqlite.specs.Held.{state};
 ghost use Rattle.desk_types.specs.declared.refusal.Refusal.TheVariants as refusals;
 ghost use Rattle.desk_log.specs.SavedValue.{committed_entries};
-ghost use Rattle.desk_saved.specs.AfterRefusal.{IsOpeningRefusal};
-ghost use Rattle.desk_saved.specs.Contents.{schema_of};
+ghost use Rattle.desk_saved.specs.Opening.{IsOpeningRefusal};
+ghost use Rattle.desk_naming.specs.Contents.{schema_of};
 ghost use Rattle.desk_saved.specs.File.{HasNoTable};
 ghost use Rattle.desk_archive.specs.Archive.{IsArchiveRefusal, IsWritingRefusal, HasArchived, HasBegunArchive};
 ghost use Rattle.desk_archive.specs.Lines.{AppendsLines, AppendsFirstLines, entries_from};
@@ -40,8 +40,8 @@ fn is_same_node(before: &Option<Owner>, owner: &Owner) -> bool
 }
 
 /// The node whose file a database is, which is the one whose files came before, where there are any. A database that
-/// names no node, or another, is refused by 45, a refused growth is 40, and a fault of the database 41. Nothing is
-/// changed.
+/// names no node, or another, is refused by `WrongFile`, a refused growth is `WantOfMemory`, and a fault of the
+/// database `StoreFault`. Nothing is changed.
 pub fn archived_owner<S: Alter>(
     alloc: Global,
     connection: &mut Connection<S>,
@@ -97,8 +97,9 @@ fn archive_state<S: Alter, W: Write>(
 /// first has the place after `past` others, which stand in files before. A database that has none of the node's tables
 /// gets them, and a file of version 1 becomes one of version 2 in it, so whoever wants a file as it is gives a copy.
 ///
-/// It ends early where memory is refused (40), where the database answers a fault (41), at a write that fails or takes
-/// no byte (44), and where the database is no file of the node, or has an instant that no document names (45).
+/// It ends early where memory is refused (`WantOfMemory`), where the database answers a fault (`StoreFault`), at a
+/// write that fails or takes no byte (`WriteFault`), and where the database is no file of the node, or has an instant
+/// that no document names (`WrongFile`).
 pub fn archive_database<S: Alter, W: Write>(
     alloc: Global,
     writer: &mut W,

@@ -258,8 +258,8 @@ fn line_with(alloc: Global, entry: &Entry, at: &str) -> Result<String, WantOfMem
 }
 
 /// The document line of an entry: whoever sends it asks for the command of the entry, as its client and under its
-/// number. An instant outside of the years -9999 to 9999, which no document names, is refused by 45, and a refused
-/// growth is 40.
+/// number. An instant outside of the years -9999 to 9999, which no document names, is refused by `WrongFile`, and a
+/// refused growth is `WantOfMemory`.
 pub fn document_line(alloc: Global, entry: &Entry) -> Result<String, Refusal>
     ensures line { IfOk result (λ line. IsLineOf entry.now (string_bytes line)) }
     ensures fault { IfErr result (λ r. (r ≡ refusals.WantOfMemory) ⊎ (r ≡ refusals.WrongFile)) }

@@ -20,7 +20,7 @@ pub(crate) struct DocumentWriter {
     out: Writer,
 }
 
-// It is written out, so that a caller does not prove again how each part is dropped.
+// Written out, so that callers need not prove each part's drop.
 impl Drop for DocumentWriter {
     fn drop(self) {
         let DocumentWriter { out: _ } = self;

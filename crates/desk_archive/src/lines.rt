@@ -11,8 +11,8 @@ use desk_types::{Entry, Refusal};
 use std::alloc::Global;
 use std::io::Write;
 
-/// Writes the document line of each entry, in their order. It ends early where memory is refused (40), at a write that
-/// fails or takes no byte (44), and at an entry whose instant no document names (45).
+/// Writes the document line of each entry, in their order. It ends early where memory is refused (`WantOfMemory`), at a
+/// write that fails or takes no byte (`WriteFault`), and at an entry whose instant no document names (`WrongFile`).
 pub fn write_documents<W: Write>(
     alloc: Global,
     writer: &mut W,

@@ -15,22 +15,13 @@ use Rattle.desk_codec.proofs.Starts.{start_is_front}
 use Rattle.desk_frames.specs.declared.cutter.TheConstants.{ROOM_BYTES}
 use Rattle.desk_frames.specs.declared.frame.Place.{Place}
 use Rattle.desk_frames.specs.declared.frame.Place.TheVariants as places
-use Rattle.desk_frames.specs.Frame.{
-  FrameState,
-  Stands,
-  position,
-  Moved,
-  IsAwaited,
-  IsFront,
-  PreservedAt,
-  PreservedAll,
-  PreservedWith,
-}
+use Rattle.desk_frames.specs.Frame.{FrameState, Stands, position, Moved, IsAwaited, IsFront, PreservedAt}
+use Rattle.desk_frames.specs.Frame.{PreservedAll, PreservedWith}
 use Rattle.desk_frames.specs.Frame.{SoFar, GoesOn, HasCut, StillPreserved, Awaits, front_entries, in_frame}
 use Rattle.desk_frames.specs.Stream.{Standing, Open, Doomed, Holds, Came, frames_spelling}
 use Rattle.desk_frames.specs.Whole.{log_in}
 use Rattle.desk_frames.proofs.Cuttings.{AreFit-append, bad_longer}
-use Rattle.desk_frames.proofs.Keeping.{awaited_preserved, front_self}
+use Rattle.desk_frames.proofs.Keeping.{front_self}
 use Rattle.desk_frames.proofs.Steps.{partial_at}
 
 preserved_none : (es : List Entry) (ms : List Message) (f g : FrameState) →
@@ -97,7 +88,7 @@ goes_nowhere f ms old es done s = subst (λ (d : List ℕ). SoFar old es d ms f)
 
 still_front : (es : List Entry) (ms : List Message) (f : FrameState) → IsAwaited f.place → PreservedAll es ms f →
     IsFront es (front_entries ms f.entries)
-still_front es [] f a k = awaited_preserved es f.place f.entries a k
+still_front es [] f a k = k a
 still_front es (m ∷ ms) f a k = k
 
 -- memory was refused before anything changed
@@ -256,15 +247,8 @@ waiting_after f x rest = of f.place
 from_here : (f : FrameState) → Stands f.place f.entries → SoFar (position f []) f.entries [] [] f
 from_here f o = record {
   came = (tt, λ bytes h. (bytes, append-nil bytes, h));
-  keeps = of f.place;
+  keeps = λ a. front_self f.entries;
 }
-  where
-    of : (p : Place) → PreservedAt f.entries p f.entries
-    of places.Length = front_self f.entries
-    of (places.Start announced) = front_self f.entries
-    of (places.Entries announced left s more) = front_self f.entries
-    of (places.Doomed left) = tt
-    of places.Stopped = tt
 
 pub came_all : (f g : FrameState) (waited piece waits : List ℕ) (ms : List Message) → Stands f.place f.entries →
     Stands g.place g.entries → Awaits f.place waited → Awaits g.place waits →

@@ -7,8 +7,6 @@ use Rattle.desk_types.specs.declared.packet.Message.{Message}
 use Rattle.desk_types.specs.declared.packet.Message.TheVariants.{Prepare, PrepareOk, Commit, StartViewChange}
 use Rattle.desk_types.specs.declared.packet.Message.TheVariants.{DoViewChange, StartView, GetState, NewState}
 use Rattle.desk_codec.specs.Version.{entries_of}
-use Rattle.desk_frames.specs.declared.frame.Place.{Place}
-use Rattle.desk_frames.specs.declared.frame.Place.TheVariants as places
 use Rattle.desk_frames.specs.Frame.{FrameState, HasEntries, IsAwaited, IsFront, PreservedAt, PreservedWith}
 use Rattle.desk_frames.specs.Whole.{log_in}
 
@@ -17,22 +15,6 @@ front_front xs ys zs p q = (p.0 ++ q.0, sym (append_assoc xs p.0 q.0) ∙ ap (λ
 
 pub front_self : (xs : List Entry) → IsFront xs xs
 front_self xs = ([], append-nil xs)
-
-pub awaited_preserved : (es : List Entry) (p : Place) (now : List Entry) → IsAwaited p → PreservedAt es p now →
-    IsFront es now
-awaited_preserved es places.Length now a k = k
-awaited_preserved es (places.Start announced) now a k = k
-awaited_preserved es (places.Entries announced left s more) now a k = k
-awaited_preserved es (places.Doomed left) now a k = absurd a
-awaited_preserved es places.Stopped now a k = absurd a
-
-preserved_on : (es ds : List Entry) (p : Place) (now : List Entry) → IsFront es ds → PreservedAt ds p now →
-    PreservedAt es p now
-preserved_on es ds places.Length now f k = front_front es ds now f k
-preserved_on es ds (places.Start announced) now f k = front_front es ds now f k
-preserved_on es ds (places.Entries announced left s more) now f k = front_front es ds now f k
-preserved_on es ds (places.Doomed left) now f k = tt
-preserved_on es ds places.Stopped now f k = tt
 
 -- a packet with one entry had none before
 lone_front : (es ds : List Entry) (e d : Entry) → IsFront es ds → d ∷ [] ≡ ds ++ e ∷ [] → IsFront es []
@@ -56,48 +38,27 @@ log_front (StartView from view commit log) es ds e f h = front_front es ds log f
 log_front (NewState from view base commit entries) es ds e f h = front_front es ds entries f (e ∷ [], sym h)
 
 -- an entry came
-pub entry_keeps : (f g : FrameState) (p : Place) (e : Entry) (packet : Option Message) → f.place ≡ p → IsAwaited p →
+pub entry_keeps : (f g : FrameState) (e : Entry) (packet : Option Message) → IsAwaited f.place →
     HasEntries (f.entries ++ e ∷ []) packet g.place g.entries → (es : List Entry) → PreservedAt es f.place f.entries →
     PreservedWith es packet g
-entry_keeps f g p e packet is a has es k = of packet has
+entry_keeps f g e packet a has es k = of packet has
   where
-    front : IsFront es f.entries
-    front = awaited_preserved es p f.entries a (subst (λ (q : Place). PreservedAt es q f.entries) is k)
-
     of : (packet : Option Message) → HasEntries (f.entries ++ e ∷ []) packet g.place g.entries →
         PreservedWith es packet g
-    of None has = preserved_on es (f.entries ++ e ∷ []) g.place g.entries
-        (front_front es f.entries (f.entries ++ e ∷ []) front (e ∷ [], refl)) has
-    of (Some m) has = log_front m es f.entries e front has
+    of None has = λ b. front_front es (f.entries ++ e ∷ []) g.entries
+        (front_front es f.entries (f.entries ++ e ∷ []) (k a) (e ∷ [], refl)) (has b)
+    of (Some m) has = log_front m es f.entries e (k a) has
 
 nil_front : (es ds : List Entry) → IsFront es [] → IsFront es ds
 nil_front [] ds f = (ds, refl)
 nil_front (y ∷ ys) ds f = absurd (omega (arith, ap length f.1, length-append (y ∷ ys) f.0))
 
 -- a start came, before which there was no entry
-pub start_keeps : (f g : FrameState) (p : Place) (packet : Option Message) → f.place ≡ p → IsAwaited p →
-    f.entries ≡ [] → HasEntries f.entries packet g.place g.entries → (es : List Entry) →
-    PreservedAt es f.place f.entries → PreservedWith es packet g
-start_keeps f g p packet is a none has es k = of packet has
+pub start_keeps : (f g : FrameState) (packet : Option Message) → IsAwaited f.place → f.entries ≡ [] →
+    HasEntries f.entries packet g.place g.entries → (es : List Entry) → PreservedAt es f.place f.entries →
+    PreservedWith es packet g
+start_keeps f g packet a none has es k = of packet has
   where
-    front : IsFront es f.entries
-    front = awaited_preserved es p f.entries a (subst (λ (q : Place). PreservedAt es q f.entries) is k)
-
     of : (packet : Option Message) → HasEntries f.entries packet g.place g.entries → PreservedWith es packet g
-    of None has = preserved_on es f.entries g.place g.entries front has
-    of (Some m) has = nil_front es (log_in m) (subst (IsFront es) none front)
-
--- no entry came
-pub same_keeps : (f : FrameState) (p q : Place) → f.place ≡ p → IsAwaited p → (es : List Entry) →
-    PreservedAt es f.place f.entries → PreservedAt es q f.entries
-same_keeps f p q is a es k =
-    let front : IsFront es f.entries =
-    awaited_preserved es p f.entries a (subst (λ (q : Place). PreservedAt es q f.entries) is k) in
-    preserved_on es f.entries q f.entries front (preserved_self q)
-  where
-    preserved_self : (q : Place) → PreservedAt f.entries q f.entries
-    preserved_self places.Length = front_self f.entries
-    preserved_self (places.Start announced) = front_self f.entries
-    preserved_self (places.Entries announced left s more) = front_self f.entries
-    preserved_self (places.Doomed left) = tt
-    preserved_self places.Stopped = tt
+    of None has = λ b. front_front es f.entries g.entries (k a) (has b)
+    of (Some m) has = nil_front es (log_in m) (subst (IsFront es) none (k a))

@@ -2,16 +2,8 @@
 use Rattle.std.proofs.Common.{◌≡◌, ◌≢◌, inl, inr, ℕ, ◌≤◌, List, length, refl, sym, subst, ◌∙◌, arith}
 use Rattle.std.proofs.lemmas.List.{append_cancel_left}
 use Rattle.desk_codec.specs.Ranges.{IsPacketLength}
-use Rattle.desk_frames.specs.Stream.{
-  Standing,
-  Open,
-  Doomed,
-  Stopped,
-  Holds,
-  IsPartial,
-  frames_spelling,
-  announced_length,
-}
+use Rattle.desk_frames.specs.Stream.{Standing, Open, Doomed, Stopped, Holds, IsPartial, frames_spelling}
+use Rattle.desk_frames.specs.Stream.{announced_length}
 use Rattle.desk_frames.specs.Lengths.{WaitsForGoodLengths}
 
 partial_good : (rest : List ℕ) → IsPartial rest → 4 ≤ length rest → IsPacketLength (announced_length rest)

@@ -86,7 +86,7 @@ module _ (announced left : ℕ) (f : PacketStart) (es : List Entry) (more : ℕ)
       partial_at announced b [] o.range (omega (arith, o.sum, lt)),
     );
     stands = (o, some, lt);
-    keeps = front_self es;
+    keeps = λ a. front_self es;
   }
 
   -- bytes of an entry that begins no packet
@@ -113,7 +113,7 @@ module _ (announced left : ℕ) (f : PacketStart) (es : List Entry) (more : ℕ)
     arrives = none_frame announced b o.range.1
         (subst (NoneOf announced) (append-nil b) (short_of [] some (sym none) (inl (omega arith))));
     stands = tt;
-    keeps = tt;
+    keeps = λ a. absurd a;
   }
 
   -- the packet is whole
@@ -151,7 +151,7 @@ module _ (announced left : ℕ) (f : PacketStart) (es : List Entry) (more : ℕ)
           omega (arith, size, o.sum, back),
         );
         stands = some;
-        keeps = tt;
+        keeps = λ a. absurd a;
       }
 
   -- no packet has them
@@ -161,7 +161,7 @@ module _ (announced left : ℕ) (f : PacketStart) (es : List Entry) (more : ℕ)
       let never : NoneOf announced b = λ n rest others fits len h.
       let same = only_these f es more o.has none n rest others fits h in
       p n fits same.0 same.1 in
-      record { arrives = none_frame announced b o.range.1 never; stands = tt; keeps = tt }
+      record { arrives = none_frame announced b o.range.1 never; stands = tt; keeps = λ a. absurd a }
 
 -- by the frame, as the code has it
 
@@ -171,6 +171,10 @@ MovesTo f x g = (bytes : List ℕ) → Holds (position f []) bytes → Holds (po
 standing_at : (f : FrameState) (p : Place) → f.place ≡ p →
     position f [] ≡ position (record { place = p; entries = f.entries }) []
 standing_at f p e = ap (λ (p : Place). position (record { place = p; entries = f.entries }) []) e
+
+-- a frame stands as what it is seen as
+pub stands_seen : (f g : FrameState) → g ≡ f → Stands g.place g.entries → Stands f.place f.entries
+stands_seen f g e stands = subst (λ (k : FrameState). Stands k.place k.entries) e stands
 
 -- what came after some bytes of the frame
 arrives_moved : (f g : FrameState) (announced : ℕ) (front y x : List ℕ) (packet : Option Message) →
@@ -419,12 +423,6 @@ module _ (left : ℕ) (f : FrameState) (e : f.place ≡ places.Doomed left) (x :
   pub passes_end : (now : List Entry) →
       MovesTo f (take (length x) x) (record { place = places.Stopped; entries = now })
   passes_end now bytes hold = bad_longer bytes (take (length x) x) (doomed_bytes bytes hold).0
-
-pub passes_all : (f : FrameState) (x : List ℕ) → f.place ≡ places.Stopped → MovesTo f x f
-passes_all f x e bytes hold =
-    let is = standing_at f places.Stopped e in
-    let h : Holds Stopped bytes = subst (λ (s : Standing). Holds s bytes) is hold in
-    subst (λ (s : Standing). Holds s (bytes ++ x)) (sym is) (bad_longer bytes x h)
 
 -- where no byte is there, more are needed
 pub awaits_nothing : (p : Place) (es : List Entry) → Stands p es → Awaits p []

@@ -77,19 +77,15 @@ Covers place bytes n = (x y : List ℕ) → bytes ≡ x ++ y → Awaits place x 
 abbrev pub IsFront : List Entry → List Entry → Type 0
 IsFront xs ys = (rest : List Entry) × (xs ++ rest ≡ ys)
 
--- the entries that stood before stay in front, where a frame stands open
-abbrev pub PreservedAt : List Entry → Place → List Entry → Type 0
-PreservedAt es places.Length now = IsFront es now
-PreservedAt es (places.Start announced) now = IsFront es now
-PreservedAt es (places.Entries announced left s more) now = IsFront es now
-PreservedAt es (places.Doomed left) now = Unit {0}
-PreservedAt es places.Stopped now = Unit {0}
-
--- a place of a frame that is awaited, where entries are kept
+-- a place of a frame that is awaited, where entries are held
 abbrev pub IsAwaited : Place → Type 0
 IsAwaited (places.Doomed left) = ⊥
 IsAwaited places.Stopped = ⊥
 IsAwaited _ = Unit {0}
+
+-- the entries that stood before stay in front, where a frame is awaited
+abbrev pub PreservedAt : List Entry → Place → List Entry → Type 0
+PreservedAt es place now = IsAwaited place → IsFront es now
 
 -- the entries that stood before are the first of the packet, or of the frame that stands open
 abbrev pub PreservedWith : List Entry → Option Message → FrameState → Type 0

@@ -30,7 +30,7 @@ pub(crate) struct FrameCutter {
     filled: usize,
 }
 
-// It is written out, so that a caller does not prove again how each part is dropped.
+// Written out, so that callers need not prove each part's drop.
 impl Drop for FrameCutter {
     fn drop(self) {
         let FrameCutter {

@@ -39,7 +39,7 @@ pub(crate) enum Place {
         start: PacketStart,
         more: u32,
     },
-    /// No packet begins so, which is told with the frame's last byte, so many bytes on.
+    /// No packet begins so, which is reported with the frame's last byte, so many bytes on.
     Doomed {
         left: usize,
     },
@@ -54,7 +54,7 @@ pub(crate) struct OpenFrame {
     entries: Vec<Entry>,
 }
 
-// It is written out, so that a caller does not prove again how each part is dropped.
+// Written out, so that callers need not prove each part's drop.
 impl Drop for OpenFrame {
     fn drop(self) {
         let OpenFrame {
@@ -105,7 +105,7 @@ fn go_on(
 ) -> (Place, Option<Packet>)
     requires { IsOpen announced left start entries.old.items more }
     ensures after { AfterPart announced start entries.old.items result.1 result.0 entries.new.items }
-    // Bytes that are left over are told with the frame's last byte.
+    // Bytes that are left over are reported with the frame's last byte.
     ensures place { result.0 ≡ place_after_part announced left start more result.1 }
 {
     if more > 0 {
@@ -141,7 +141,7 @@ fn log_in(alloc: Global, packet: Packet) -> Vec<Entry>
 }
 
 impl OpenFrame {
-    /// No byte of a frame. It takes no memory.
+    /// A frame of which no byte has come. It allocates nothing.
     pub(crate) fn new(alloc: Global) -> OpenFrame
         ensures { result ≡ record { place = places.Length; entries = [] } }
     {

@@ -24,7 +24,7 @@ pub struct FrameReader {
     reads: ReadCount,
 }
 
-// It is written out, so that a caller does not prove again how each part is dropped.
+// Written out, so that callers need not prove each part's drop.
 impl Drop for FrameReader {
     fn drop(self) {
         let FrameReader {
@@ -61,7 +61,8 @@ impl FrameReader {
     }
 
     /// Takes the next piece of the stream, and gives the packets that are whole now. Refused are bytes that no frame
-    /// begins with, by 42 from then on, and want of memory, by 40, after which the piece can be fed again.
+    /// begins with, by `FrameFault` from then on, and want of memory, by `WantOfMemory`, after which the piece can be
+    /// fed again.
     pub fn feed(&mut self, piece: &[u8]) -> Result<Vec<Packet>, FrameFault>
         ensures fed { Fed self.old.standing piece.now (viewed (λ v. v.items) result) self.new.standing }
         ensures waiting { self.new.waiting ≡ self.old.waiting }

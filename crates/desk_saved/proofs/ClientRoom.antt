@@ -5,8 +5,9 @@ use Rattle.sqlite_schema.specs.declared.schema.Schema.{Schema}
 use Rattle.sqlite_schema.specs.declared.schema.Table.{Table}
 use Rattle.sqlite_keyed.proofs.ListLemmas.{all-slice_get}
 use Rattle.sqlite_catalog.specs.Change.{created, next_tree}
-use Rattle.desk_saved.specs.Tables.{node_table, entry_table, client_table}
-use Rattle.desk_saved.specs.TableInSchema.{StandsAt, IsOtherName, NamesNone}
+use Rattle.desk_naming.specs.Tables.{node_table, entry_table, client_table}
+use Rattle.desk_naming.specs.TableInSchema.{StandsAt}
+use Rattle.desk_saved.specs.ForeignKeys.{IsOtherName, NamesNone}
 use Rattle.desk_saved.specs.DeskTables.{Layout}
 use Rattle.desk_saved.specs.OldFile.{GrowsTo, HasOldTables, HasRoomForClients}
 use Rattle.desk_saved.proofs.DeskTables.{two_trees, node_entry}

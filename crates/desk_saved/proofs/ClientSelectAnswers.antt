@@ -1,8 +1,7 @@
 -- What the SELECT of the clients answers.
-use Rattle.std.proofs.Common.{◌≡◌, ◌≢◌, ◌<ℤ◌, ℕ, suc, ◌+◌, ◌<◌, ◌≤◌, pos, List, [], ◌∷◌, map, flat_map, length}
-use Rattle.std.proofs.Common.{get_or, Ok}
-use Rattle.std.proofs.Common.{Ordering, Less, Equal, Greater, is_eq, is_lt, false, IsPermutation, IsSorted, AllPairs}
-use Rattle.std.proofs.Common.{refl, sym, ap, ap₂, subst, ◌∙◌, arith}
+use Rattle.std.proofs.Common.{◌≡◌, ◌≢◌, ◌<ℤ◌, ℕ, suc, ◌+◌, ◌<◌, ◌≤◌, pos, List, [], ◌∷◌, map, flat_map, length, get_or}
+use Rattle.std.proofs.Common.{Ok, Ordering, Less, Equal, Greater, is_eq, is_lt, false, IsPermutation, IsSorted}
+use Rattle.std.proofs.Common.{AllPairs, refl, sym, ap, ap₂, subst, ◌∙◌, arith}
 use Rattle.std.specs.List.{AllByRecursion}
 use Rattle.std.specs.Ordering.{int_cmp, MatchOrdering}
 use Rattle.std.proofs.lemmas.Cmp.{int_ranked}
@@ -25,11 +24,11 @@ use Rattle.desk_types.specs.declared.command.Entry.{Entry}
 use Rattle.desk_log.specs.declared.clients.ClientRow.{ClientRow}
 use Rattle.desk_log.specs.Clients.{clients}
 use Rattle.desk_log.proofs.ClientRows.{clients_differ}
-use Rattle.desk_saved.specs.Tables.{read_clients}
+use Rattle.desk_naming.specs.Tables.{read_clients}
 use Rattle.desk_saved.specs.DeskTables.{Layout, shown_client}
 use Rattle.desk_saved.specs.File.{row_of_client, client_rows, AreRisingClients}
 use Rattle.desk_saved.proofs.ClientSelecting.{clients_any, clients_unlisted, clients_query, clients_names}
-use Rattle.desk_saved.proofs.ClientSelecting.{read_clients_command}
+use Rattle.desk_naming.proofs.Selecting.{selects}
 use Rattle.desk_saved.proofs.SelectAnswers.{out_of, rows_of}
 
 -- the order of two rows by their first columns
@@ -114,7 +113,7 @@ preserved_is (r ∷ rows) = ap (λ l. out_of (shown_client r) ∷ l) (preserved_
 
 module _ (d : Layout) (old new : State) (rows : List Row) (schema : old.now.schema ≡ d.schema)
     (h : Shown read_clients [] old new rows) where
-  known : understood d.schema read_clients ≡ Ok (read_clients_command d.client.tree)
+  known : understood d.schema read_clients ≡ Ok (selects (clients_query d.client.tree) clients_names 56)
   known = clients_any d.schema d.client.tree d.client.at d.client.stands
 
   answer : IsAnswer (clients_query d.client.tree) (overlay old.now.trees []) [] rows

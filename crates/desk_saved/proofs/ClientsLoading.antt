@@ -12,12 +12,11 @@ use Rattle.desk_types.specs.declared.command.Entry.{Entry}
 use Rattle.desk_types.specs.declared.owner.Owner.{Owner}
 use Rattle.desk_log.specs.declared.clients.ClientRow.{ClientRow}
 use Rattle.desk_log.specs.SavedValue.{SavedValue}
-use Rattle.desk_saved.specs.Tables.{read_clients}
+use Rattle.desk_naming.specs.Tables.{read_clients}
 use Rattle.desk_saved.specs.DeskTables.{Layout, log_tables, shown_client}
-use Rattle.desk_saved.specs.File.{row_of_client, AreRisingClients, HasClients, HasLogFile, HasNoState}
-use Rattle.desk_saved.specs.File.{IsState}
+use Rattle.desk_saved.specs.File.{row_of_client, AreRisingClients, HasClients, HasLogFile, HasNoState, IsState}
 use Rattle.desk_saved.specs.SchemaRefusals.{IsDeskSchema}
-use Rattle.desk_saved.proofs.Common.{all_permuted}
+use Rattle.desk_naming.proofs.Common.{all_permuted}
 use Rattle.desk_saved.proofs.ClientSelecting.{clients_any}
 use Rattle.desk_saved.proofs.ClientSelectAnswers.{clients_shown, clients_in_order}
 use Rattle.desk_saved.proofs.Restarts.{same_log}

@@ -1,8 +1,6 @@
 -- What the lemmas on each statement share.
-use Rattle.std.proofs.Common.{◌≡◌, ◌≢◌, ◌⊎◌, inl, inr, ℕ, ℤ, pos, negsuc, List, [], ◌∷◌, ◌||◌, Bool, true, false}
-use Rattle.std.proofs.Common.{cond, None}
-use Rattle.std.proofs.Common.{Ok, Err, Result, IfOk, Ordering, Less, Equal, Greater, is_eq, IsPermutation, refl}
-use Rattle.std.proofs.Common.{subst}
+use Rattle.std.proofs.Common.{◌≡◌, ◌≢◌, ◌⊎◌, inl, inr, ℕ, ℤ, List, [], ◌∷◌, ◌||◌, Bool, true, false, cond, Ok, Err}
+use Rattle.std.proofs.Common.{Result, IfOk, Ordering, Less, Equal, Greater, is_eq, IsPermutation, refl, subst}
 use Rattle.std.specs.List.{AllByRecursion}
 use Rattle.std.specs.Ordering.{match_ordering}
 use Rattle.std.proofs.lemmas.List.Sorted.{IsPermutation-refl, IsPermutation-sym, IsPermutation-cons}
@@ -11,15 +9,13 @@ use Rattle.sqlite_value.specs.declared.value.Value.{Value}
 use Rattle.sqlite_value.specs.declared.value.Value.TheVariants.{Null, Int}
 use Rattle.sqlite_value.specs.Order.{Row, value_cmp}
 use Rattle.sqlite_sql.specs.Ops.{unary}
-use Rattle.sqlite_sql.specs.Query.{Query, inner, end}
-use Rattle.sqlite_sql.specs.Term.{col, lit}
 use Rattle.sqlite_schema.specs.declared.schema.Table.{Table}
 use Rattle.sqlite_schema.specs.declared.schema.Kind.TheVariants.{Integer}
 use Rattle.sqlite_rules.specs.Cast.{cast}
 use Rattle.sqlite_rules.specs.Edit.{is_taken}
 use Rattle.sqlite_trees.specs.Tree.{Trees, rowid, put_row}
-use Rattle.sqlite_keyed.proofs.ListLemmas.{along_permutation, all-slice_get}
-use Rattle.desk_saved.specs.TableInSchema.{TableIn}
+use Rattle.sqlite_keyed.proofs.ListLemmas.{all-slice_get}
+use Rattle.desk_naming.specs.TableInSchema.{TableIn}
 use Rattle.desk_saved.specs.DeskTables.{Layout}
 
 either : (b : Bool) (x : Value) → cond b x x ≡ x
@@ -54,12 +50,6 @@ put_fresh new (r ∷ rows) free = go (value_cmp (rowid r) (rowid new)) free (put
     go Equal h more = absurd cc
     go Greater h more = IsPermutation-refl _
 
--- what is true of each row of a list is true of each in any order
-pub all_permuted : (P : Row → Type 0) (xs ys : List Row) → IsPermutation xs ys → AllByRecursion P xs
-    → AllByRecursion P ys
-all_permuted P = along_permutation (λ xs ys. AllByRecursion P xs → AllByRecursion P ys) (λ xs h. h)
-    (λ x xs ys more h. (h.0, more h.1)) (λ x y xs h. (h.1.0, (h.0, h.1.1))) (λ xs ys zs f g h. g (f h))
-
 -- one of our tables other than the one that is written
 pub preserved_table : (d : Layout) {kind : ℕ → Table} (ours : TableIn d.schema kind) (tree : ℕ) (old new : Trees)
     → (kind ours.tree).tree ≡ ours.tree → ours.tree ≢ tree
@@ -69,20 +59,6 @@ preserved_table d {kind} ours tree old new is apart all =
     let it = all-slice_get (λ (t : Table). t.tree ≢ tree → new t.tree ≡ old t.tree) d.schema.tables ours.at
     (kind ours.tree) ours.stands.found all in
     subst (λ n. n ≢ tree → new n ≡ old n) is it apart
-
--- the query of all rowids of a table
-abbrev pub all_rowids : ℕ → Query
-all_rowids tree = record {
-  from = inner tree end;
-  filter = [];
-  group = None;
-  project = col 1 0 ∷ [];
-  distinct = false;
-  collations = [];
-  order = [];
-  limit = lit (Int (negsuc 0));
-  offset = lit (Int (pos 0));
-}
 
 -- what holds where it went well, in weaker words
 pub if_ok : {A E : Type 0} (P Q : A → Type 0) (r : Result A E) → ((a : A) → P a → Q a) → IfOk r P → IfOk r Q

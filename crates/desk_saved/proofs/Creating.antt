@@ -1,6 +1,5 @@
 -- The three CREATEs.
-use Rattle.std.proofs.Common.{◌≡◌, [], codes, None, Ok, Err}
-use Rattle.std.proofs.Common.{refl, false}
+use Rattle.std.proofs.Common.{◌≡◌, [], codes, None, Ok, Err, refl, false}
 use Rattle.sqlite_schema.specs.Names.{same_name}
 use Rattle.sqlite_schema.specs.declared.command.Command.TheVariants.{CreateTable}
 use Rattle.sqlite_resolve.specs.declared.compiled.Compiled.{Compiled}
@@ -10,14 +9,13 @@ use Rattle.sqlite_schema.specs.declared.schema.Schema.{Schema}
 use Rattle.sqlite_syntax.specs.declared.statement.Parsed.{Parsed}
 use Rattle.sqlite_resolve.specs.Lowering.{Checked}
 use Rattle.sqlite_resolve.specs.Compile.{first, compiled, create_table, table_defined_by, planned, meaning, timed}
-use Rattle.sqlite_resolve.specs.Compile.{returning, command}
+use Rattle.sqlite_resolve.specs.Compile.{returning, command, creates, is_attached, is_reserved}
 use Rattle.sqlite.specs.Listing.{understood}
-use Rattle.desk_saved.specs.Tables.{entry_table, node_table, client_table}
+use Rattle.desk_naming.specs.Tables.{entry_table, node_table, client_table}
 use Rattle.desk_saved.specs.Tables.{make_node, make_entry, make_client}
 use Rattle.desk_saved.specs.NewTables.{IsFree}
 use Rattle.sqlite_tied.specs.Compute.{everything}
 use Rattle.sqlite_ast.specs.declared.CreateTable as ast
-use Rattle.sqlite_resolve.specs.Compile.{creates, is_attached, is_reserved}
 use Rattle.sqlite_resolve.specs.Define as define
 
 abbrev pub node_command : Compiled

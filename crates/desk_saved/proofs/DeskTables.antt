@@ -1,28 +1,19 @@
 -- A schema is that of a desk exactly where its tables of the three names are those of one.
-use Rattle.std.proofs.Common.{◌≡◌, ◌≢◌, ℕ, ◌+◌, List, [], ◌∷◌, Bool, true, false, ◌||◌, cond, None}
-use Rattle.std.proofs.Common.{Some, Option, codes, refl, sym, ap, subst, ◌∙◌}
+use Rattle.std.proofs.Common.{◌≡◌, ◌≢◌, ℕ, ◌+◌, List, [], ◌∷◌, Bool, true, false, ◌||◌, cond, None, Some, codes, refl}
+use Rattle.std.proofs.Common.{sym, ap, subst, ◌∙◌}
 use Rattle.std.specs.Prelude.{slice_get, IsTrue}
 use Rattle.std.specs.List.{list_any, position_from}
-use Rattle.std.specs.Option.{option_and_then}
 use Rattle.sqlite_keyed.proofs.ListLemmas.{all-slice_get}
 use Rattle.sqlite_schema.specs.declared.schema.Table.{Table}
 use Rattle.sqlite_schema.specs.declared.schema.Schema.{Schema}
 use Rattle.sqlite_schema.specs.Names.{table_named}
-use Rattle.desk_saved.specs.Tables.{node_table, entry_table, client_table}
-use Rattle.desk_saved.specs.TableInSchema.{HasOwnTree, StandsAt, TableIn, NamesNone}
+use Rattle.desk_naming.specs.Tables.{node_table, entry_table, client_table}
+use Rattle.desk_naming.specs.TableInSchema.{HasOwnTree, StandsAt, TableIn, table_of}
+use Rattle.desk_saved.specs.ForeignKeys.{NamesNone}
 use Rattle.desk_saved.specs.DeskTables.{Layout}
 use Rattle.desk_saved.specs.File.{HasAll, HasNoTable}
-use Rattle.desk_saved.specs.SchemaRefusals.{HasTables, IsDeskSchema, table_of}
-
--- the place at which the table stands that a name finds
-pub placed : (schema : Schema) (name : List ℕ) (t : Table) → table_of schema name ≡ Some t
-    → (at : ℕ) × (table_named schema name ≡ Some at) × (slice_get schema.tables at ≡ Some t)
-placed schema name t found = go (table_named schema name) refl found
-  where
-    go : (o : Option ℕ) → table_named schema name ≡ o → option_and_then (slice_get schema.tables) o ≡ Some t
-        → (at : ℕ) × (table_named schema name ≡ Some at) × (slice_get schema.tables at ≡ Some t)
-    go None named h = absurd cc
-    go (Some at) named h = (at, named, h)
+use Rattle.desk_saved.specs.SchemaRefusals.{HasTables, IsDeskSchema}
+use Rattle.desk_naming.proofs.StandingTables.{in_schema}
 
 -- one table stands where a name finds it
 pub one_tree : (schema : Schema) (one other : Table) (at at' : ℕ) → StandsAt schema one at → StandsAt schema other at'
@@ -49,21 +40,6 @@ node_client e = cc
 
 entry_client : codes "entry" ≢ codes "client"
 entry_client e = cc
-
--- what is compared of one of them says where it stands
-pub in_schema : (schema : Schema) (kind : ℕ → Table) (t : Table) → table_of schema (kind t.tree).name ≡ Some t
-    → t ≡ kind t.tree → HasOwnTree schema t → TableIn schema kind
-in_schema schema kind t found same own =
-    let there = placed schema (kind t.tree).name t found in
-    record {
-      tree = t.tree;
-      at = there.0;
-      stands = record {
-        named = there.1;
-        found = there.2 ∙ ap Some same;
-        own = subst (HasOwnTree schema) same own;
-      };
-    }
 
 -- and one that stands there is the one found, with what is compared
 pub one_found : (schema : Schema) (kind : ℕ → Table) (place : TableIn schema kind) (t : Table)

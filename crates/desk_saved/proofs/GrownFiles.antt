@@ -10,13 +10,13 @@ use Rattle.sqlite.specs.Held.{Held, state}
 use Rattle.desk_types.specs.declared.owner.Owner.{Owner}
 use Rattle.desk_types.specs.declared.refusal.Refusal.TheVariants as refusals
 use Rattle.desk_log.specs.SavedValue.{SavedValue}
-use Rattle.desk_saved.specs.Contents.{trees_of}
+use Rattle.desk_naming.specs.Contents.{trees_of}
 use Rattle.desk_saved.specs.declared.changes.Missing.TheVariants as missings
 use Rattle.desk_saved.specs.declared.steps.RowStep.{RowStep}
 use Rattle.desk_saved.specs.Changes.{effects, AreApt, SparesAll, StandsBefore}
 use Rattle.desk_saved.specs.Transactions.{Transacts}
-use Rattle.desk_saved.specs.DeskTables.{Layout, StateRows, HasRows, Saves, KeepsOthers, own_rows}
-use Rattle.desk_saved.specs.DeskTables.{KeepsEntryRows, versioned_row}
+use Rattle.desk_saved.specs.DeskTables.{Layout, StateRows, HasRows, Saves, KeepsOthers, own_rows, KeepsEntryRows}
+use Rattle.desk_saved.specs.DeskTables.{versioned_row}
 use Rattle.desk_saved.specs.File.{client_rows, log_of, state_rows}
 use Rattle.desk_saved.specs.Growth.{StandsToGrow, MayGrow, HasNotGrown}
 use Rattle.desk_saved.proofs.OneTransaction.{left_after, saved_after}

@@ -7,13 +7,12 @@ use Rattle.sqlite.specs.Held.{Held, state}
 use Rattle.desk_types.specs.declared.refusal.Refusal.{Refusal}
 use Rattle.desk_types.specs.declared.refusal.Refusal.TheVariants as refusals
 use Rattle.desk_log.specs.SavedValue.{SavedValue}
-use Rattle.desk_saved.specs.Contents.{schema_of, trees_of}
+use Rattle.desk_naming.specs.Contents.{schema_of, trees_of}
 use Rattle.desk_saved.specs.DeskTables.{Layout}
 use Rattle.desk_saved.specs.File.{IsState, HasFile, HasNoState}
 use Rattle.desk_saved.specs.Loading.{HasLoaded}
-use Rattle.desk_saved.specs.AfterRefusal.{IsSettled, ShowsAsBefore}
-use Rattle.desk_saved.specs.Causes.{RefusesRead}
-use Rattle.desk_saved.specs.Reads.{HasRead}
+use Rattle.desk_naming.specs.AfterRefusal.{IsSettled, ShowsAsBefore}
+use Rattle.desk_naming.specs.Reads.{RefusesRead, HasRead}
 use Rattle.desk_saved.specs.SchemaRefusals.{IsDeskSchema}
 use Rattle.desk_saved.specs.Store.{StoreValue}
 use Rattle.desk_saved.proofs.SavedRows.{holds_still}

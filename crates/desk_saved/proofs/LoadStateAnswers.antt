@@ -1,6 +1,5 @@
 -- What `load_state` answers.
-use Rattle.std.proofs.Common.{Result, Ok, Err, IfErr, ◌≡◌, ◌≤◌, ℕ, List, [], ◌∷◌, length}
-use Rattle.std.proofs.Common.{false, sym, ap, subst, ◌∙◌, arith, map}
+use Rattle.std.proofs.Common.{◌≡◌, ◌≤◌, ℕ, List, [], ◌∷◌, length, false, sym, ap, subst, ◌∙◌, arith, map}
 use Rattle.std.proofs.lemmas.List.Sorted.{length_permutation}
 use Rattle.sqlite_trees.specs.Tree.{Trees}
 use Rattle.sqlite_catalog.specs.Listing.{IsSound}
@@ -64,8 +63,3 @@ still_saved old new d own s same schema file sound settled free =
       is_open = same.0.is_open;
       autocommit = same.0.mode ∙ free;
     }
-
--- what holds of every refusal
-pub if_err_all : {A E : Type 0} (r : Result A E) (P : E → Type 0) → ((e : E) → P e) → IfErr r P
-if_err_all (Ok a) P h = tt
-if_err_all (Err e) P h = h e

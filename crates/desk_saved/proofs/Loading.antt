@@ -1,7 +1,6 @@
 -- What `load` says of the table of entries.
 use Rattle.std.proofs.Common.{◌≡◌, ℕ, ◌+◌, ◌<◌, pos, List, [], ◌∷◌, map, length, Option, Some, None, MatchOption}
-use Rattle.std.proofs.Common.{Ordering, Less, Equal, Greater, IsPermutation, refl, sym}
-use Rattle.std.proofs.Common.{subst, ◌∙◌, arith, ◌<ℤ◌}
+use Rattle.std.proofs.Common.{Ordering, Less, Equal, Greater, IsPermutation, refl, sym, subst, ◌∙◌, arith, ◌<ℤ◌}
 use Rattle.std.specs.Prelude.{Vec}
 use Rattle.std.specs.declared.alloc.Global.{Global}
 use Rattle.std.specs.List.{AllByRecursion}
@@ -13,22 +12,20 @@ use Rattle.sqlite_value.specs.Order.{Row, column, value_cmp}
 use Rattle.sqlite_value.proofs.OrderLemmas.{value_cmp-Int}
 use Rattle.sqlite_schema.specs.declared.schema.Schema.{Schema}
 use Rattle.sqlite_trees.specs.Tree.{Trees}
-use Rattle.sqlite.specs.Clock.{timed}
 use Rattle.sqlite.specs.Listing.{understood}
-use Rattle.sqlite.specs.State.{State, Shown, ShowsRows, IsUnchanged}
-use Rattle.sqlite.proofs.Callers.{IsPlain, one_permutation}
+use Rattle.sqlite.specs.State.{State, Shown}
+use Rattle.sqlite.proofs.Callers.{IsPlain}
 use Rattle.desk_types.specs.declared.command.Entry.{Entry}
 use Rattle.desk_saved.specs.declared.transactions.Numbers.{Numbers}
-use Rattle.desk_saved.specs.Tables.{read_entries, read_node}
-use Rattle.desk_saved.specs.DeskTables.{LogTables, shown_entry, shown_node, versioned_row}
+use Rattle.desk_naming.specs.Tables.{read_entries}
+use Rattle.desk_saved.specs.DeskTables.{LogTables, shown_entry, versioned_row, HasLogTables}
+use Rattle.desk_naming.specs.Named.{shown_node}
 use Rattle.desk_saved.specs.File.{rows_from, AreNoLog, HasLog, HasNoLog, HasOwn, HasNoOwn}
 use Rattle.desk_codec.specs.Ranges.{FitsEntries}
-use Rattle.desk_saved.specs.Named.{HasNodeTable}
-use Rattle.desk_saved.specs.Reads.{HasLogTables}
-use Rattle.desk_saved.proofs.Common.{all_permuted}
+use Rattle.desk_naming.proofs.Common.{all_permuted}
 use Rattle.desk_saved.proofs.Selecting.{entries_any}
-use Rattle.desk_saved.proofs.NodeRow.{node_any}
 use Rattle.desk_saved.proofs.SelectAnswers.{IsInOrder, entries_shown, entries_in_order}
+use Rattle.desk_naming.proofs.NodeAnswer.{one_shown, one_stands}
 
 before : (a b : ℕ) → a < b → value_cmp (Int (pos a)) (Int (pos b)) ≡ Less
 before a b h = value_cmp-Int (pos a) (pos b) ∙ go (int_cmp (pos a) (pos b)) (int_ranked (pos a) (pos b) _ refl)
@@ -57,15 +54,6 @@ plain_entries schema stand =
     subst (λ sc. IsPlain (understood sc read_entries)) (sym stand.1)
     (subst IsPlain (sym (entries_any d.schema d.entry.tree d.entry.at d.entry.stands)) (refl, refl))
 
--- a query changes nothing
-pub unchanged_by : (sql : List ℕ) (params : Row) (old new : State) (rows : List Row)
-    → IsPlain (understood old.now.schema sql) → Shown sql params old new rows → IsUnchanged old new
-unfolding Shown
-unchanged_by sql params old new rows plain h =
-    let none = (subst IsPlain h.1.is plain).0 in
-    let full = timed params h.0.formats h.1.now in
-    (subst (ShowsRows old new sql h.0 full rows) none h.2).3
-
 module _ (d : LogTables) (old new : State) (schema : old.now.schema ≡ d.schema) where
   pub are_wide : (rows : List Row) → Shown read_entries [] old new rows → AllByRecursion (λ row. length row ≡ 4) rows
   are_wide rows h = all_permuted (λ row. length row ≡ 4) _ _
@@ -81,28 +69,6 @@ module _ (d : LogTables) (old new : State) (schema : old.now.schema ≡ d.schema
     subst (λ l. IsPermutation l (map shown_entry (old.now.trees d.entry.tree))) found.1
         (entries_shown d old new rows schema h),
   )
-
-eight : (rows : List Row) → AllByRecursion (λ row. length row ≡ 8) (map shown_node rows)
-eight [] = tt
-eight (r ∷ rows) = (refl, eight rows)
-
-pub plain_node : (schema : Schema) → HasNodeTable schema → IsPlain (understood schema read_node)
-plain_node schema stand =
-    let d = stand.0 in
-    subst (λ sc. IsPlain (understood sc read_node)) (sym stand.1)
-    (subst IsPlain (sym (node_any d.schema d.node.tree d.node.at d.node.stands)) (refl, refl))
-
--- rows that are those of `node`, in any order
-module _ (trees : Trees) (node : ℕ) (rows : List Row) (shown : IsPermutation rows (map shown_node (trees node))) where
-  pub node_wide : AllByRecursion (λ row. length row ≡ 8) rows
-  node_wide = all_permuted (λ row. length row ≡ 8) _ _ (IsPermutation-sym _ _ shown) (eight (trees node))
-
-  -- one row alone is the same in any order
-  pub one_shown : (row : Row) → map shown_node (trees node) ≡ row ∷ [] → rows ≡ row ∷ []
-  one_shown row one = one_permutation _ rows (IsPermutation-sym _ _ (subst (IsPermutation rows) one shown))
-
-  pub one_stands : (row : Row) → rows ≡ row ∷ [] → map shown_node (trees node) ≡ row ∷ []
-  one_stands row is = one_permutation _ _ (subst (λ l. IsPermutation l (map shown_node (trees node))) is shown)
 
 module _ (d : LogTables) (trees : Trees) (rows : List Row)
     (shown : IsPermutation rows (map shown_node (trees d.node.tree))) where

@@ -1,6 +1,6 @@
 -- What the statements do that make the tables.
-use Rattle.std.proofs.Common.{◌≡◌, ℕ, List, [], ◌∷◌, ◌++◌, map, false, None, Ok}
-use Rattle.std.proofs.Common.{IsTrue, IsPermutation, refl, sym, ap, subst, ◌∙◌}
+use Rattle.std.proofs.Common.{◌≡◌, ℕ, List, [], ◌∷◌, ◌++◌, map, false, None, Ok, IsTrue, IsPermutation, refl, sym, ap}
+use Rattle.std.proofs.Common.{subst, ◌∙◌}
 use Rattle.std.specs.List.{AllByRecursion}
 use Rattle.std.proofs.lemmas.List.Sorted.{IsPermutation-refl}
 use Rattle.sqlite_trees.specs.Tree.{Trees}
@@ -20,9 +20,10 @@ use Rattle.sqlite_keyed.proofs.ListLemmas.{all_weaker}
 use Rattle.desk_saved.specs.declared.changes.DeskTable.{DeskTable}
 use Rattle.desk_saved.specs.declared.changes.DeskTable.TheVariants as tables
 use Rattle.desk_saved.specs.Changes.{made_table, making_text}
-use Rattle.desk_saved.specs.Tables.{node_table, entry_table, client_table, make_node, make_entry, make_client}
-use Rattle.desk_saved.specs.DeskTables.{Layout, IsInside, Keeps, KeepsOthers, shown_node, shown_entry, shown_client}
-use Rattle.desk_saved.specs.DeskTables.{IsOther}
+use Rattle.desk_naming.specs.Tables.{node_table, entry_table, client_table}
+use Rattle.desk_saved.specs.Tables.{make_node, make_entry, make_client}
+use Rattle.desk_saved.specs.DeskTables.{Layout, IsInside, Keeps, KeepsOthers, shown_entry, shown_client, IsOther}
+use Rattle.desk_naming.specs.Named.{shown_node}
 use Rattle.desk_saved.specs.NewTables.{CanTake, MakesTable, Becomes, with_node_table, with_entry_table}
 use Rattle.desk_saved.proofs.Common.{went, same_value}
 use Rattle.desk_saved.proofs.Creating.{node_any, entry_any, client_any, node_command, entry_command, client_command}

@@ -9,10 +9,11 @@ use Rattle.sqlite.specs.Held.{Held, state}
 use Rattle.desk_saved.specs.declared.changes.DeskTable.{DeskTable}
 use Rattle.desk_saved.specs.declared.changes.Missing.TheVariants as missings
 use Rattle.desk_saved.specs.Changes.{effects, SparesMissing, StandsBefore, made_table, making_text}
-use Rattle.desk_saved.specs.Contents.{schema_of}
-use Rattle.desk_saved.specs.DeskTables.{Keeps, IsInside, shown_node, shown_entry, shown_client}
+use Rattle.desk_naming.specs.Contents.{schema_of}
+use Rattle.desk_saved.specs.DeskTables.{Keeps, IsInside, shown_entry, shown_client}
+use Rattle.desk_naming.specs.Named.{shown_node}
 use Rattle.desk_saved.specs.NewTables.{CanTake, MakesTable}
-use Rattle.desk_saved.specs.Tables.{node_table, entry_table, client_table}
+use Rattle.desk_naming.specs.Tables.{node_table, entry_table, client_table}
 use Rattle.desk_saved.specs.Transactions.{Quiet, Ran, MakesRows}
 use Rattle.desk_saved.proofs.Making.{makes_table, all_made, others_made, made_inside}
 use Rattle.desk_saved.proofs.Growing.{others_preserved, entry_preserved, node_preserved, client_empty}

@@ -1,7 +1,6 @@
 -- What a step on one of the two tables does, where nobody refers to it.
-use Rattle.std.proofs.Common.{◌≡◌, ◌≢◌, ℕ, List, [], ◌∷◌, ◌&&◌, Bool, true, false, Option}
-use Rattle.std.proofs.Common.{Some, None, IfSome, refl, arith}
-use Rattle.std.proofs.Common.{length}
+use Rattle.std.proofs.Common.{◌≡◌, ◌≢◌, ℕ, List, [], ◌∷◌, ◌&&◌, Bool, true, false, Option, Some, None, IfSome, refl}
+use Rattle.std.proofs.Common.{arith, length}
 use Rattle.std.specs.List.{AllByRecursion, list_any, flat_map, filter_map}
 use Rattle.std.specs.Prelude.{◌==◌, if◌then◌else◌}
 use Rattle.sqlite_value.specs.Order.{Row}

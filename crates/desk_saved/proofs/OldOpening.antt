@@ -9,19 +9,20 @@ use Rattle.desk_types.specs.declared.owner.Owner.{Owner}
 use Rattle.desk_types.specs.declared.refusal.Refusal.{Refusal}
 use Rattle.desk_types.specs.declared.refusal.Refusal.TheVariants as refusals
 use Rattle.desk_log.specs.SavedValue.{SavedValue}
-use Rattle.desk_saved.specs.Contents.{schema_of, trees_of}
-use Rattle.desk_saved.specs.DeskTables.{Layout, LogTables, KeepsOthers, shown_node, shown_entry, versioned_row}
+use Rattle.desk_naming.specs.Contents.{schema_of, trees_of}
+use Rattle.desk_saved.specs.DeskTables.{Layout, LogTables, KeepsOthers, shown_entry, versioned_row}
+use Rattle.desk_naming.specs.Named.{shown_node}
 use Rattle.desk_saved.specs.File.{HoldsFile, log_of, rows_from}
 use Rattle.desk_saved.specs.Growth.{StandsToGrow, MayGrow, HasGrown, HasNotGrown}
 use Rattle.desk_saved.specs.OldFile.{GrowsTo, HasOldRows, HasOldTables, HasOldFile, HasNoOldState, HasRoomForClients}
 use Rattle.desk_saved.specs.OldFile.{IsGrown, IsOldState}
-use Rattle.desk_saved.specs.Opening.{HasOpened, HasRefused, LeavesGrown, LeavesNoMore}
-use Rattle.desk_saved.specs.AfterRefusal.{IsOpeningRefusal, ShowsAsBefore}
+use Rattle.desk_saved.specs.Opening.{HasOpened, HasRefused, LeavesGrown, IsOpeningRefusal}
+use Rattle.desk_naming.specs.AfterRefusal.{LeavesNoMore, ShowsAsBefore}
 use Rattle.desk_saved.specs.Causes.{HasOpeningCause}
 use Rattle.desk_saved.specs.Store.{StoreValue}
 use Rattle.desk_saved.proofs.Growing.{same_node, same_entry}
 use Rattle.desk_saved.proofs.OldTables.{old_not_none, old_not_all, old_not_tables}
-use Rattle.desk_saved.proofs.Refusing.{shows_then}
+use Rattle.desk_naming.proofs.Refusing.{shows_then}
 
 -- what follows from each Ok, and from each Err
 pub ok_so : {A E : Type 0} (r : Result A E) (P Q : A → Type 0) → ((a : A) → P a → Q a) → IfOk r P → IfOk r Q

@@ -4,8 +4,9 @@ use Rattle.sqlite_trees.specs.Tree.{Trees}
 use Rattle.sqlite.specs.Effect.{Database, IsDatabase}
 use Rattle.desk_types.specs.declared.owner.Owner.{Owner}
 use Rattle.desk_log.specs.SavedValue.{SavedValue}
-use Rattle.desk_saved.specs.Tables.{node_table, entry_table}
-use Rattle.desk_saved.specs.DeskTables.{Layout, shown_node, shown_entry, versioned_row}
+use Rattle.desk_naming.specs.Tables.{node_table, entry_table}
+use Rattle.desk_saved.specs.DeskTables.{Layout, shown_entry, versioned_row}
+use Rattle.desk_naming.specs.Named.{shown_node}
 use Rattle.desk_saved.specs.File.{HasOwn, HasLog, IsState, IsFileOf, rows_from}
 use Rattle.desk_saved.specs.OldFile.{HasOldTables, IsGrown, IsOldFileOf}
 use Rattle.desk_saved.proofs.DeskTables.{one_tree}

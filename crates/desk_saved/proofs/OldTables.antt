@@ -2,12 +2,13 @@
 use Rattle.std.proofs.Common.{◌≡◌, ◌≢◌, codes, None, Some, false, IsTrue, refl, sym, subst}
 use Rattle.sqlite_schema.specs.declared.schema.Table.{Table}
 use Rattle.sqlite_schema.specs.declared.schema.Schema.{Schema}
-use Rattle.desk_saved.specs.Tables.{node_table, entry_table}
-use Rattle.desk_saved.specs.TableInSchema.{HasOwnTree, StandsAt}
+use Rattle.desk_naming.specs.Tables.{node_table, entry_table}
+use Rattle.desk_naming.specs.TableInSchema.{HasOwnTree, StandsAt, table_of}
 use Rattle.desk_saved.specs.File.{HasAll, HasNoTable, bears}
 use Rattle.desk_saved.specs.OldFile.{HasOldTables}
-use Rattle.desk_saved.specs.SchemaRefusals.{HasTables, IsDeskSchema, table_of}
-use Rattle.desk_saved.proofs.DeskTables.{in_schema, borne, tables_all, desk_has}
+use Rattle.desk_saved.specs.SchemaRefusals.{HasTables, IsDeskSchema}
+use Rattle.desk_naming.proofs.StandingTables.{in_schema}
+use Rattle.desk_saved.proofs.DeskTables.{borne, tables_all, desk_has}
 
 -- what is compared of the two tables
 abbrev pub AreOldTables : Schema → Table → Table → Type 0

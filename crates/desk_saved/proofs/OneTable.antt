@@ -27,10 +27,11 @@ use Rattle.sqlite.specs.Effect.{Database, IsDatabase, value_rows}
 use Rattle.sqlite.specs.Listing.{understood}
 use Rattle.sqlite.specs.State.{State, mode_of, Executes}
 use Rattle.sqlite.proofs.Callers.{runs_as, statement_of, one_step, command_of, IsPlain}
-use Rattle.desk_saved.specs.TableInSchema.{StandsAt}
+use Rattle.desk_naming.specs.TableInSchema.{StandsAt}
 use Rattle.desk_saved.specs.DeskTables.{IsKeyed, AreKeyed}
-use Rattle.desk_saved.specs.Tables.{desk_table}
-use Rattle.desk_saved.proofs.Common.{went, same_value, put_fresh, all_rowids}
+use Rattle.desk_naming.specs.Tables.{desk_table}
+use Rattle.desk_saved.proofs.Common.{went, same_value, put_fresh}
+use Rattle.desk_naming.proofs.Common.{all_rowids}
 use Rattle.desk_saved.proofs.NoWorks.{no_works}
 use Rattle.desk_saved.proofs.StandingTables.{NobodyRefersTo}
 use Rattle.desk_saved.proofs.RowsLeft.{taken_out}

@@ -12,7 +12,7 @@ use Rattle.sqlite.proofs.Callers.{survives_begin}
 use Rattle.desk_saved.specs.declared.changes.Missing.{Missing}
 use Rattle.desk_saved.specs.declared.steps.RowStep.{RowStep}
 use Rattle.desk_saved.specs.Changes.{effects, AreApt, StandsBefore}
-use Rattle.desk_saved.specs.Contents.{trees_of}
+use Rattle.desk_naming.specs.Contents.{trees_of}
 use Rattle.desk_saved.specs.Transactions.{KeepsSpared, MakesRows, Transacts}
 use Rattle.desk_saved.specs.DeskTables.{Layout, StateRows, Keeps, Leaves, Saves, KeepsOthers, Changes, IsInside}
 

@@ -12,7 +12,7 @@ use Rattle.desk_types.specs.declared.owner.Owner.{Owner}
 use Rattle.desk_types.specs.declared.refusal.Refusal.{Refusal}
 use Rattle.desk_types.specs.declared.refusal.Refusal.TheVariants as refusals
 use Rattle.desk_log.specs.SavedValue.{SavedValue, initial_saved}
-use Rattle.desk_saved.specs.Contents.{schema_of, trees_of}
+use Rattle.desk_naming.specs.Contents.{schema_of, trees_of}
 use Rattle.desk_saved.specs.declared.changes.Missing.TheVariants as missings
 use Rattle.desk_saved.specs.declared.steps.RowStep.{RowStep}
 use Rattle.desk_saved.specs.Changes.{effects, AreApt, StandsBefore}
@@ -20,8 +20,8 @@ use Rattle.desk_saved.specs.Transactions.{Transacts}
 use Rattle.desk_saved.specs.DeskTables.{Layout, StateRows, KeepsOthers, Saves, Changes, own_rows}
 use Rattle.desk_saved.specs.File.{IsState, HasFile, HoldsFile, HasNoState, HasNoTable}
 use Rattle.desk_saved.specs.NewTables.{Becomes, HasRoomForTables}
-use Rattle.desk_saved.specs.Opening.{HasOpened, HasRefused, LeavesFirst, LeavesNoMore}
-use Rattle.desk_saved.specs.AfterRefusal.{IsOpeningRefusal, ShowsAsBefore}
+use Rattle.desk_saved.specs.Opening.{HasOpened, HasRefused, LeavesFirst, IsOpeningRefusal}
+use Rattle.desk_naming.specs.AfterRefusal.{LeavesNoMore, ShowsAsBefore}
 use Rattle.desk_saved.specs.Causes.{HasNoTransaction, HasOpeningCause}
 use Rattle.desk_saved.specs.SchemaRefusals.{IsDeskSchema, IsRefusedBy}
 use Rattle.desk_saved.proofs.DeskTables.{desk_tables, desk_not_none, tables_not_none, unnamed_of}

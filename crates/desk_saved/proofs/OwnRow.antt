@@ -11,8 +11,10 @@ use Rattle.sqlite_trees.specs.Tree.{Trees}
 use Rattle.sqlite_rules.specs.declared.error.Rowids.TheVariants.{Given}
 use Rattle.sqlite_rules.specs.Edit.{edit_of, edited}
 use Rattle.sqlite.proofs.Callers.{one_permutation}
-use Rattle.desk_saved.specs.DeskTables.{shown_node, versioned_row}
-use Rattle.desk_saved.specs.Tables.{node_table, node_row}
+use Rattle.desk_naming.specs.Named.{shown_node}
+use Rattle.desk_saved.specs.DeskTables.{versioned_row}
+use Rattle.desk_naming.specs.Tables.{node_table}
+use Rattle.desk_saved.specs.Tables.{node_row}
 use Rattle.desk_saved.proofs.Common.{cast_int, cast_null}
 use Rattle.desk_saved.proofs.Texts.{updating, set_terms, version_terms}
 

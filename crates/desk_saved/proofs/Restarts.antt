@@ -1,8 +1,7 @@
 -- A database is that of one saved state of a node at most.
-use Rattle.std.proofs.Common.{◌≡◌, ◌⊎◌, inl, inr, take, drop, IsTrue, ◌<◌, ◌<ℤ◌, ℕ, zero, suc, ◌+◌, pos, List}
-use Rattle.std.proofs.Common.{[], ◌∷◌, map, length, get_or}
-use Rattle.std.proofs.Common.{Ordering, Less, Equal, Greater, is_lt, false, IsPermutation, IsSorted, sym, refl, ap}
-use Rattle.std.proofs.Common.{subst, ◌∙◌, arith}
+use Rattle.std.proofs.Common.{◌≡◌, ◌⊎◌, inl, inr, take, drop, IsTrue, ◌<◌, ◌<ℤ◌, ℕ, zero, suc, ◌+◌, pos, List, [], ◌∷◌}
+use Rattle.std.proofs.Common.{map, length, get_or, Ordering, Less, Equal, Greater, is_lt, false, IsPermutation}
+use Rattle.std.proofs.Common.{IsSorted, sym, refl, ap, subst, ◌∙◌, arith}
 use Rattle.std.specs.Ordering.{int_cmp, MatchOrdering}
 use Rattle.std.proofs.lemmas.Cmp.{on_total, int_ranked}
 use Rattle.std.proofs.lemmas.List.Sorted.{IsPermutation-sym, IsPermutation-trans}
@@ -25,13 +24,13 @@ use Rattle.desk_codec.specs.Ranges.{FitsEntry, FitsEntries}
 use Rattle.desk_codec.specs.Spelling.{body_spelling}
 use Rattle.desk_codec.proofs.Promises.{bodies_are_one}
 use Rattle.desk_log.specs.SavedValue.{SavedValue, IsSaved}
-use Rattle.desk_saved.specs.Contents.{trees_of}
-use Rattle.desk_saved.specs.Tables.{node_table, entry_table, client_table}
-use Rattle.desk_saved.specs.TableInSchema.{StandsAt}
-use Rattle.desk_saved.specs.DeskTables.{Layout, LogTables, log_tables, KeepsOthers}
-use Rattle.desk_saved.specs.DeskTables.{shown_entry, shown_node, shown_client}
-use Rattle.desk_saved.specs.File.{entry_row_at, rows_from, state_rows, HasFile, HasLog, HoldsFile}
-use Rattle.desk_saved.specs.File.{HasNoTable, IsState, IsFileOf}
+use Rattle.desk_naming.specs.Contents.{trees_of}
+use Rattle.desk_naming.specs.Tables.{node_table, entry_table, client_table}
+use Rattle.desk_naming.specs.TableInSchema.{StandsAt}
+use Rattle.desk_saved.specs.DeskTables.{Layout, LogTables, log_tables, KeepsOthers, shown_entry, shown_client}
+use Rattle.desk_naming.specs.Named.{shown_node}
+use Rattle.desk_saved.specs.File.{entry_row_at, rows_from, state_rows, HasFile, HasLog, HoldsFile, HasNoTable, IsState}
+use Rattle.desk_saved.specs.File.{IsFileOf}
 use Rattle.desk_saved.proofs.LoadStateAnswers.{same_view}
 use Rattle.desk_saved.proofs.Loading.{in_order}
 use Rattle.desk_saved.proofs.DeskTables.{one_tree, desk_not_none}

@@ -1,8 +1,6 @@
 -- A database to which the three tables can be added has a desk once they are made.
-use Rattle.std.proofs.Common.{◌≡◌, ◌<◌, ◌≤◌, ℕ, zero, suc, ◌+◌, max, List, [], ◌∷◌, ◌++◌, length, codes, cond}
-use Rattle.std.proofs.Common.{not}
-use Rattle.std.proofs.Common.{Bool, true, false, ◌||◌, ◌&&◌, Option, Some, None, refl, ap, ◌∙◌, arith}
-use Rattle.std.proofs.Common.{append-nil}
+use Rattle.std.proofs.Common.{◌≡◌, ◌<◌, ◌≤◌, ℕ, zero, suc, ◌+◌, max, List, [], ◌∷◌, ◌++◌, length, codes, cond, not}
+use Rattle.std.proofs.Common.{Bool, true, false, ◌||◌, ◌&&◌, Option, Some, None, refl, ap, ◌∙◌, arith, append-nil}
 use Rattle.std.specs.Prelude.{slice_get, fold, nat_le, is_some}
 use Rattle.std.specs.List.{AllByRecursion, list_any, position_from}
 use Rattle.std.specs.Option.{option_and_then}
@@ -16,9 +14,10 @@ use Rattle.sqlite_catalog.specs.Change.{created, next_tree, past_views}
 use Rattle.sqlite_rules.proofs.ActionLemmas.{got_last}
 use Rattle.sqlite.specs.Does.{lacks_sequence}
 use Rattle.sqlite.specs.Rows.{sequence}
-use Rattle.desk_saved.specs.declared.limits.TheConstants.{TREES}
-use Rattle.desk_saved.specs.Tables.{node_table, entry_table, client_table}
-use Rattle.desk_saved.specs.TableInSchema.{StandsAt, IsOtherName, NamesNone}
+use Rattle.desk_naming.specs.declared.limits.TheConstants.{TREES}
+use Rattle.desk_naming.specs.Tables.{node_table, entry_table, client_table}
+use Rattle.desk_naming.specs.TableInSchema.{StandsAt}
+use Rattle.desk_saved.specs.ForeignKeys.{IsOtherName, NamesNone}
 use Rattle.desk_saved.specs.DeskTables.{Layout}
 use Rattle.desk_saved.specs.NewTables.{IsFree, Becomes, HasRoomForTables}
 

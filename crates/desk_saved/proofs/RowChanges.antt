@@ -1,7 +1,7 @@
 -- What each change makes of the rows, and what changes make of them in a row.
 use Rattle.std.proofs.Common.{◌≡◌, ◌&&◌, ℕ, zero, suc, ◌+◌, ◌<◌, pos, ℤ, List, [], ◌∷◌, map, not, Bool, true, false}
-use Rattle.std.proofs.Common.{codes, Some, Ok, Err, Result, take, length, get_or, is_gt, is_eq, IsPermutation}
-use Rattle.std.proofs.Common.{refl, sym, ap, subst, ◌∙◌, arith}
+use Rattle.std.proofs.Common.{codes, Some, Ok, Err, Result, take, length, get_or, is_gt, is_eq, IsPermutation, refl}
+use Rattle.std.proofs.Common.{sym, ap, subst, ◌∙◌, arith}
 use Rattle.std.specs.List.{AllByRecursion}
 use Rattle.std.proofs.lemmas.List.Sorted.{IsPermutation-cons, IsPermutation-trans, IsPermutation-map}
 use Rattle.sqlite_value.specs.declared.value.Value.{Value}
@@ -31,13 +31,15 @@ use Rattle.desk_saved.specs.declared.steps.RowStep.{RowStep}
 use Rattle.desk_saved.specs.Changes.{sql_of, values_of, change_effect, effects, step_effect, with_numbers, with_version}
 use Rattle.desk_saved.specs.Changes.{IsOwnRow, IsApt, IsAptStep, AreApt, Spares}
 use Rattle.desk_saved.specs.Transactions.{KeepsSpared, Quiet, Ran, MakesRows}
-use Rattle.desk_saved.specs.Tables.{entry_table, client_table, node_table, node_row, slot_is_one, stored, stored_client}
-use Rattle.desk_saved.specs.Tables.{cut_entries, add_entry, cut_client, add_client, first_node, set_node, set_version}
-use Rattle.desk_saved.specs.DeskTables.{Layout, StateRows, Keeps, Leaves, IsOther, IsKeyed, AreKeyed}
-use Rattle.desk_saved.specs.DeskTables.{KeepsEntryRows, versioned_row, is_past, is_client, shown_entry, shown_node}
-use Rattle.desk_saved.specs.DeskTables.{shown_client, own_row}
+use Rattle.desk_naming.specs.Tables.{entry_table, client_table, node_table, slot_is_one}
+use Rattle.desk_saved.specs.Tables.{node_row, stored, stored_client, cut_entries, add_entry, cut_client, add_client}
+use Rattle.desk_saved.specs.Tables.{first_node, set_node, set_version}
+use Rattle.desk_saved.specs.DeskTables.{Layout, StateRows, Keeps, Leaves, IsOther, IsKeyed, AreKeyed, KeepsEntryRows}
+use Rattle.desk_saved.specs.DeskTables.{versioned_row, is_past, is_client, shown_entry, shown_client, own_row}
+use Rattle.desk_naming.specs.Named.{shown_node}
 use Rattle.desk_saved.specs.File.{entry_row_at}
-use Rattle.desk_saved.proofs.Common.{all_permuted, preserved_table, cast_int, cast_null}
+use Rattle.desk_naming.proofs.Common.{all_permuted}
+use Rattle.desk_saved.proofs.Common.{preserved_table, cast_int, cast_null}
 use Rattle.desk_saved.proofs.OneTable.{WroteTable, Means, deletes, inserts, updates}
 use Rattle.desk_saved.proofs.OwnRow.{only_row, picked, answers, edit_is, col_is, picks_numbers, picks_version}
 use Rattle.desk_saved.proofs.StandingTables.{entry_free, client_free, node_free}

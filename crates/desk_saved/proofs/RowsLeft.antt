@@ -1,6 +1,6 @@
 -- Which rows a DELETE leaves.
-use Rattle.std.proofs.Common.{◌≡◌, ℤ, List, [], ◌∷◌, filter, not, ◌||◌, Bool, true, false, cond}
-use Rattle.std.proofs.Common.{Ordering, Equal, is_eq, IsPermutation, refl, sym, ap, subst, ◌∙◌}
+use Rattle.std.proofs.Common.{◌≡◌, ℤ, List, [], ◌∷◌, filter, not, ◌||◌, Bool, true, false, cond, Ordering, Equal, is_eq}
+use Rattle.std.proofs.Common.{IsPermutation, refl, sym, ap, subst, ◌∙◌}
 use Rattle.std.specs.List.{list_any, AllByRecursion}
 use Rattle.std.proofs.lemmas.Cmp.{tied_itself}
 use Rattle.std.proofs.lemmas.List.Sorted.{list_any-IsPermutation}

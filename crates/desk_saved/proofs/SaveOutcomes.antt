@@ -1,6 +1,6 @@
 -- What a save of the object answers.
-use Rattle.std.proofs.Common.{◌≡◌, ◌⊎◌, inl, ℕ, ◌≤◌, List, take, drop, length, Bool, true, false, IsTrue}
-use Rattle.std.proofs.Common.{Result, Ok, Err, IfOk, OnErr, refl, sym, subst, ap, ◌∙◌}
+use Rattle.std.proofs.Common.{◌≡◌, ◌⊎◌, inl, ℕ, ◌≤◌, List, take, drop, length, Bool, true, false, IsTrue, Result, Ok}
+use Rattle.std.proofs.Common.{Err, IfOk, OnErr, refl, sym, subst, ap, ◌∙◌}
 use Rattle.std.specs.List.{AllByRecursion}
 use Rattle.sqlite_trees.specs.Tree.{Trees}
 use Rattle.sqlite_trees.specs.declared.store.Store.{Ghosts}
@@ -14,11 +14,11 @@ use Rattle.desk_saved.specs.declared.changes.Missing.TheVariants as missings
 use Rattle.desk_saved.specs.declared.steps.RowStep.{RowStep}
 use Rattle.desk_saved.specs.Changes.{effects, AreApt, IsFitStep, SparesAll, StandsBefore}
 use Rattle.desk_saved.specs.Transactions.{Transacts}
-use Rattle.desk_saved.specs.Contents.{trees_of}
+use Rattle.desk_naming.specs.Contents.{trees_of}
 use Rattle.desk_saved.specs.DeskTables.{Layout, KeepsOthers}
 use Rattle.desk_saved.specs.File.{HasFile, HoldsFile, IsState}
 use Rattle.desk_codec.specs.Ranges.{FitsEntries}
-use Rattle.desk_saved.specs.AfterRefusal.{ShowsAsBefore, KeepsFaultsAndLimit}
+use Rattle.desk_naming.specs.AfterRefusal.{ShowsAsBefore, KeepsFaultsAndLimit}
 use Rattle.desk_saved.specs.Saving.{HasSaved, StopLeaves}
 use Rattle.desk_saved.specs.Store.{StoreValue}
 use Rattle.desk_saved.proofs.SeveralStatements.{others_same}

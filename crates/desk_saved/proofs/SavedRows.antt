@@ -1,6 +1,6 @@
 -- What a save of the object keeps.
-use Rattle.std.proofs.Common.{◌≡◌, ◌⊎◌, inl, inr, ℕ, ◌≤◌, ◌++◌, take, drop, length, IsTrue, sym}
-use Rattle.std.proofs.Common.{Bool, Result, Ok, ap, subst, ◌∙◌, List, map, IsPermutation}
+use Rattle.std.proofs.Common.{◌≡◌, ◌⊎◌, inl, inr, ℕ, ◌≤◌, ◌++◌, take, drop, length, IsTrue, sym, Bool, Result, Ok, ap}
+use Rattle.std.proofs.Common.{subst, ◌∙◌, List, map, IsPermutation}
 use Rattle.std.proofs.lemmas.List.Sorted.{IsPermutation-sym, IsPermutation-trans}
 use Rattle.sqlite_value.specs.Order.{Row}
 use Rattle.sqlite_trees.specs.Tree.{Trees}
@@ -12,7 +12,7 @@ use Rattle.sqlite.specs.State.{HasCleanDisk, IsUnchanged}
 use Rattle.sqlite.specs.Held.{Held, state}
 use Rattle.desk_log.specs.SavedValue.{SavedValue}
 use Rattle.desk_types.specs.declared.owner.Owner.{Owner}
-use Rattle.desk_saved.specs.Contents.{schema_of, trees_of}
+use Rattle.desk_naming.specs.Contents.{schema_of, trees_of}
 use Rattle.desk_saved.specs.declared.changes.Missing.TheVariants as missings
 use Rattle.desk_saved.specs.declared.steps.RowStep.{RowStep}
 use Rattle.desk_saved.specs.Changes.{effects, AreApt, StandsBefore}

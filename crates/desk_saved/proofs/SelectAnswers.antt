@@ -1,6 +1,5 @@
--- What the two SELECTs answer.
-use Rattle.std.proofs.Common.{◌≡◌, List, [], ◌∷◌, map, flat_map, Ok}
-use Rattle.std.proofs.Common.{Less, IsPermutation, refl, sym, ap, subst, ◌∙◌}
+-- What the SELECT of the entries answers.
+use Rattle.std.proofs.Common.{◌≡◌, List, [], ◌∷◌, map, flat_map, Ok, Less, IsPermutation, refl, sym, ap, subst, ◌∙◌}
 use Rattle.std.proofs.lemmas.List.Sorted.{IsPermutation-map, IsPermutation-sym, IsPermutation-trans}
 use Rattle.sqlite_value.specs.declared.value.Value.TheVariants.{Null}
 use Rattle.sqlite_value.specs.Order.{Row, column, value_cmp}
@@ -14,10 +13,10 @@ use Rattle.sqlite.specs.State.{State, Shown}
 use Rattle.sqlite.proofs.Callers.{reads_as, IsPlain, command_of}
 use Rattle.sqlite_keyed.proofs.ListLemmas.{ascending-map, ascending_weaker}
 use Rattle.sqlite_keyed.proofs.SortLemmas.{sorted_unique}
-use Rattle.desk_saved.specs.Tables.{read_entries, read_node}
-use Rattle.desk_saved.specs.DeskTables.{LogTables, NodeTable, shown_entry, shown_node}
+use Rattle.desk_naming.specs.Tables.{read_entries}
+use Rattle.desk_saved.specs.DeskTables.{LogTables, shown_entry}
+use Rattle.desk_naming.proofs.Selecting.{selects}
 use Rattle.desk_saved.proofs.Selecting.{entries_any, entries_unlisted, read_query, read_names}
-use Rattle.desk_saved.proofs.NodeRow.{node_any, node_unlisted, node_query, node_names}
 
 -- a row with what it is ordered by
 abbrev pub out_of : Row → Output
@@ -42,7 +41,7 @@ IsInOrder = IsAscending (λ x y. value_cmp (column x 0) (column y 0) ≡ Less)
 
 module _ (d : LogTables) (old new : State) (rows : List Row) (schema : old.now.schema ≡ d.schema) where
   module _ (h : Shown read_entries [] old new rows) where
-    known : understood d.schema read_entries ≡ Ok (Rattle.desk_saved.proofs.Selecting.read_entries_command d.entry.tree)
+    known : understood d.schema read_entries ≡ Ok (selects (read_query d.entry.tree) read_names 60)
     known = entries_any d.schema d.entry.tree d.entry.at d.entry.stands
 
     answer : IsAnswer (read_query d.entry.tree) (overlay old.now.trees []) [] rows
@@ -83,31 +82,3 @@ module _ (d : LogTables) (old new : State) (rows : List Row) (schema : old.now.s
         answer.ordered strict (IsPermutation-trans _ _ _ (IsPermutation-map out_of _ _ same) in_any_order)
         answer.sorted in
         answer.shown ∙ ap (λ os. map (λ (o : Output). o.1) os) order ∙ rows_of entries
-
-node_preserved : (rows : List Row) → map (output (node_query 0)) (flat_map (λ r. ([] ∷ r ∷ []) ∷ []) rows) ≡ map
-    (λ r. ([], shown_node r)) rows
-node_preserved [] = refl
-node_preserved (r ∷ rows) = ap (λ l. ([], shown_node r) ∷ l) (node_preserved rows)
-
-node_rows_of : (rows : List Row) → map (λ (o : Output). o.1) (map (λ r. ([], shown_node r)) rows) ≡ map shown_node
-    rows
-node_rows_of [] = refl
-node_rows_of (r ∷ rows) = ap (λ l. shown_node r ∷ l) (node_rows_of rows)
-
--- the rows of `node`, in some order
-pub node_shown : (d : NodeTable) (old new : State) (rows : List Row) → old.now.schema ≡ d.schema
-    → Shown read_node [] old new rows → IsPermutation rows (map shown_node (old.now.trees d.node.tree))
-node_shown d old new rows schema h =
-    let known = node_any d.schema d.node.tree d.node.at d.node.stands in
-    let got = reads_as read_node [] old new d.schema schema
-    (Select (record { lets = []; body = node_query d.node.tree }) node_names) (ap command_of known)
-    (subst IsPlain (sym known) (refl, refl)) (node_unlisted d.schema d.node.tree d.node.at d.node.stands) rows h in
-    let answer : IsAnswer (node_query d.node.tree) (overlay old.now.trees []) [] rows = got.answer Null in
-    let preserved : answer.kept ≡ map (λ r. ([], shown_node r)) (old.now.trees d.node.tree) =
-    answer.distinct ∙ ap (map (output (node_query 0))) (let grouped = rw d.node.stands.own.small at answer.grouped in
-    grouped) ∙ node_preserved (old.now.trees d.node.tree) in
-    let mixed = IsPermutation-map (λ (o : Output). o.1) _ _
-    (subst (λ k. IsPermutation k answer.ordered) preserved answer.same) in
-    IsPermutation-sym _ _ (subst (λ l. IsPermutation (map shown_node (old.now.trees d.node.tree)) l) (sym answer.shown)
-    (subst (λ l. IsPermutation l (map (λ (o : Output). o.1) answer.ordered)) (node_rows_of (old.now.trees d.node.tree))
-    mixed))

@@ -1,7 +1,6 @@
 -- The rows of the clients in their table, when those of clients become the ones by another log.
-use Rattle.std.proofs.Common.{◌≡◌, ◌<ℤ◌, ℕ, zero, suc, ◌+◌, ◌<◌, pos, Bool, true, false, not, eqb, List, [], ◌∷◌}
-use Rattle.std.proofs.Common.{◌++◌, map}
-use Rattle.std.proofs.Common.{take, length, get_or, Option, Some, None, Ordering, Less, Equal, Greater, is_eq}
+use Rattle.std.proofs.Common.{◌≡◌, ◌<ℤ◌, ℕ, zero, suc, ◌+◌, ◌<◌, pos, Bool, true, false, not, eqb, List, [], ◌∷◌, ◌++◌}
+use Rattle.std.proofs.Common.{map, take, length, get_or, Option, Some, None, Ordering, Less, Equal, Greater, is_eq}
 use Rattle.std.proofs.Common.{IsPermutation, refl, sym, ap, subst, ◌∙◌, arith}
 use Rattle.std.specs.Option.{option_map_or}
 use Rattle.std.specs.Ordering.{int_cmp, MatchOrdering}

@@ -1,8 +1,8 @@
--- What it says of a schema that a table stands in it, and that no foreign key names the three.
-use Rattle.std.proofs.Common.{◌≡◌, ◌≢◌, ℕ, zero, suc, ◌+◌, List, [], ◌∷◌, Bool, true, false, ◌||◌, cond}
-use Rattle.std.proofs.Common.{Option, Some, None, IfSome, codes, refl, ap, ◌∙◌, arith}
-use Rattle.std.specs.Prelude.{slice_get, find, ◌==◌}
-use Rattle.std.specs.List.{AllByRecursion, position_from}
+-- What it says of a schema that no foreign key names the three tables.
+use Rattle.std.proofs.Common.{◌≡◌, ◌≢◌, ℕ, List, [], ◌∷◌, Bool, true, false, ◌||◌, cond, Option, Some, None, IfSome}
+use Rattle.std.proofs.Common.{codes, refl}
+use Rattle.std.specs.Prelude.{find}
+use Rattle.std.specs.List.{AllByRecursion}
 use Rattle.std.specs.Option.{option_and_then, option_map}
 use Rattle.sqlite_value.specs.declared.keys.Order.{Order}
 use Rattle.sqlite_schema.specs.declared.schema.Schema.{Schema}
@@ -11,8 +11,8 @@ use Rattle.sqlite_schema.specs.declared.schema.Reference.{Reference}
 use Rattle.sqlite_schema.specs.Names.{same_name}
 use Rattle.sqlite_schema.specs.Rules.{ParentKey, parent_key, key_in, key_places, declared_order}
 use Rattle.sqlite_keyed.proofs.ListLemmas.{all_weaker}
-use Rattle.sqlite_catalog.proofs.StepLemmas.{same_itself}
-use Rattle.desk_saved.specs.TableInSchema.{HasOwnTree, StandsAt, IsOtherName, NamesNone, is_desk_name}
+use Rattle.desk_naming.specs.TableInSchema.{HasOwnTree}
+use Rattle.desk_saved.specs.ForeignKeys.{IsOtherName, NamesNone, is_desk_name}
 use Rattle.desk_saved.specs.DeskTables.{Layout}
 
 -- no foreign key of any table refers to the tree's table
@@ -20,44 +20,6 @@ abbrev pub NobodyRefersTo : Schema → ℕ → Type 0
 NobodyRefersTo schema tree =
     AllByRecursion (λ child. AllByRecursion (λ ref. IfSome (parent_key schema.tables ref) (λ key. key.0 ≢ tree))
     child.references) schema.tables
-
-module _ (table : Table) where
-  abbrev bears_name : Table → Bool
-  bears_name t = same_name t.name table.name
-
-  abbrev has_tree : Table → Bool
-  has_tree t = t.tree == table.tree
-
-  -- the first table of a tree that one name has is the first of the name
-  first_of : (tables : List Table) (from at : ℕ) → position_from bears_name from tables ≡ Some (from + at)
-      → slice_get tables at ≡ Some table → AllByRecursion (λ t. t.tree ≡ table.tree → t.name ≡ table.name) tables
-      → find has_tree tables ≡ Some table
-  first_of [] from at named found alone = absurd cc
-  first_of (t ∷ tables) from zero named found alone =
-      let is : t ≡ table = cc in
-      let same : has_tree t ≡ true = let e : t.tree ≡ table.tree = ap (λ (t : Table). t.tree) is in grind arith in
-      rw same found
-  first_of (t ∷ tables) from (suc at) named found alone =
-      go (has_tree t) refl (bears_name t) refl named (λ later. first_of tables (from + 1) at later found alone.1)
-    where
-      go : (b : Bool) → has_tree t ≡ b → (c : Bool) → bears_name t ≡ c
-          → cond c (Some from) (position_from bears_name (from + 1) tables) ≡ Some (from + suc at)
-          → (position_from bears_name (from + 1) tables ≡ Some (from + 1 + at) → find has_tree tables ≡ Some table)
-          → cond b (Some t) (find has_tree tables) ≡ Some table
-      go b tree true name at_first more = absurd (let e : from ≡ from + suc at = cc in omega (arith, e))
-      go true tree false name later more =
-          let e : t.tree ≡ table.tree = grind arith in
-          let same : bears_name t ≡ true = rw (alone.0 e) (same_itself table.name) in
-          absurd cc
-      go false tree false name later more =
-          more (let e : from + suc at ≡ from + 1 + at = omega arith in rw e at later)
-
--- the table that stands is the one of its tree
-pub by_tree : {schema : Schema} {table : Table} {at : ℕ} → StandsAt schema table at
-    → find (λ t. t.tree == table.tree) schema.tables ≡ Some table
-by_tree {schema} {table} {at} it =
-    let at_first : at ≡ 0 + at = omega arith in
-    first_of table schema.tables 0 at (it.named ∙ ap Some at_first) it.found it.own.alone
 
 keyed : (tree : ℕ) (t : Table) (places : Option (List ℕ)) → t.tree ≢ tree
     → IfSome (option_and_then (key_in t) places) (λ key. key.0 ≢ tree)

@@ -27,19 +27,18 @@ use Rattle.sqlite_resolve.specs.Body.{tests}
 use Rattle.sqlite_resolve.specs.Expr.{lower}
 use Rattle.sqlite_resolve.specs.Lowering.{Checked, fresh, max_budget}
 use Rattle.sqlite_resolve.specs.Scope.{Name, Context}
-use Rattle.sqlite_resolve.specs.Compile.{first, compiled, delete, insert, insert_or_abort, new_rows, planned}
-use Rattle.sqlite_resolve.specs.Compile.{meaning, timed}
-use Rattle.sqlite_resolve.specs.Compile.{returning, shows, command, small, update}
+use Rattle.sqlite_resolve.specs.Compile.{first, compiled, delete, insert, insert_or_abort, new_rows, planned, meaning}
+use Rattle.sqlite_resolve.specs.Compile.{timed, returning, shows, command, small, update}
 use Rattle.sqlite_resolve.specs.Program.{program}
 use Rattle.sqlite_resolve.specs.Write.{deleted, simple, updated, updated_in, assigned, picked, row, over}
 use Rattle.sqlite.specs.Listing.{understood}
 use Rattle.sqlite_tied.specs.Compute.{everything}
-use Rattle.desk_saved.specs.Tables.{desk_table, entry_table, client_table, node_table, slot_is_one}
+use Rattle.desk_naming.specs.Tables.{desk_table, entry_table, client_table, node_table, slot_is_one}
 use Rattle.desk_saved.specs.Tables.{cut_entries, cut_client, add_entry, add_client, first_node, set_node, set_version}
-use Rattle.desk_saved.specs.TableInSchema.{StandsAt}
-use Rattle.desk_saved.proofs.StandingTables.{by_tree}
+use Rattle.desk_naming.specs.TableInSchema.{StandsAt}
+use Rattle.desk_naming.proofs.StandingTables.{by_tree}
 use Rattle.desk_saved.proofs.Columns.{place_is, key_is}
-use Rattle.desk_saved.proofs.Common.{all_rowids}
+use Rattle.desk_naming.proofs.Common.{all_rowids}
 use Rattle.desk_saved.proofs.OneTable.{Means, means, rowids_where}
 
 abbrev parsed_as : Statement → List Name → ℕ → Parsed

@@ -1,27 +1,14 @@
--- What a fault of the store, 41, of an open or of a load is due to: no refused growth of the desk's own is among it.
-use Rattle.std.specs.Prelude.{◌≡◌, ◌⊎◌, ℕ, List, [], IsTrue, false}
+-- What a fault of the store, `StoreFault`, of an open or of a load is due to: no refused growth of the desk's own is
+-- among it.
+use Rattle.std.specs.Prelude.{◌≡◌, ◌⊎◌, [], IsTrue, false}
 use Rattle.sqlite_trees.specs.declared.store.Store.{Ghosts}
-use Rattle.sqlite.specs.declared.error.Error.{Error}
-use Rattle.sqlite.specs.State.{State, IsUnchanged, FailsToQuery}
+use Rattle.sqlite.specs.State.{State}
 use Rattle.sqlite.specs.Held.{Held, state}
 use Rattle.desk_saved.specs.File.{HasNoTable}
 use Rattle.desk_saved.specs.NewTables.{HasRoomForTables}
 use Rattle.desk_saved.specs.OldFile.{HasOldTables, HasRoomForClients}
 use Rattle.desk_saved.specs.SchemaRefusals.{IsReferredTo}
-use Rattle.desk_saved.specs.Tables.{read_entries, read_node, read_clients}
-
--- the text reads one of the three tables
-abbrev pub ReadsTable : List ℕ → Type 0
-ReadsTable text = (text ≡ read_node) ⊎ ((text ≡ read_entries) ⊎ (text ≡ read_clients))
-
--- The database refused to read one of the three tables, by an error of its own. What was read before changed nothing.
-pub record RefusesRead {S : Type 0} (g : Ghosts S) (old new : Held S) : Type 0 where
-  pub before : Held S
-  pub same : (before ≡ old) ⊎ IsUnchanged (state g old) (state g before)
-  pub text : List ℕ
-  pub reads : ReadsTable text
-  pub error : Error
-  pub reported : FailsToQuery text [] (state g before) (state g new) error
+use Rattle.desk_naming.specs.Reads.{RefusesRead}
 
 -- no transaction is open, and no savepoint stands, as where one was rolled back
 abbrev pub HasNoTransaction : State → Type 0

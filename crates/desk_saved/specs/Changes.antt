@@ -18,12 +18,14 @@ use Rattle.desk_saved.specs.declared.changes.Missing.TheVariants as missings
 use Rattle.desk_saved.specs.declared.transactions.Numbers.{Numbers}
 use Rattle.desk_saved.specs.Clients.{settle_all}
 use Rattle.desk_saved.specs.DeskTables.{Layout, StateRows, Keeps, AreKeyed, AreWithin, up_to, without_client}
-use Rattle.desk_saved.specs.DeskTables.{client_table_row, own_row, versioned_row, shown_node, shown_entry}
+use Rattle.desk_saved.specs.DeskTables.{client_table_row, own_row, versioned_row, shown_entry}
+use Rattle.desk_naming.specs.Named.{shown_node}
 use Rattle.desk_saved.specs.File.{entry_row_at, rows_from}
 use Rattle.desk_saved.specs.NewTables.{Becomes}
 use Rattle.desk_saved.specs.OldFile.{GrowsTo}
-use Rattle.desk_saved.specs.Tables.{node_table, entry_table, client_table, make_node, make_entry, make_client}
-use Rattle.desk_saved.specs.Tables.{cut_entries, add_entry, cut_client, add_client, first_node, set_node, set_version}
+use Rattle.desk_naming.specs.Tables.{node_table, entry_table, client_table}
+use Rattle.desk_saved.specs.Tables.{make_node, make_entry, make_client, cut_entries, add_entry, cut_client, add_client}
+use Rattle.desk_saved.specs.Tables.{first_node, set_node, set_version}
 
 -- the text of its statement
 abbrev pub sql_of : RowChange → List ℕ

@@ -11,8 +11,10 @@ use Rattle.sqlite_rules.specs.Edit.{id_in}
 use Rattle.sqlite_catalog.specs.Listing.{IsSound}
 use Rattle.sqlite.specs.Effect.{Database, IsDatabase}
 use Rattle.sqlite.specs.State.{State, Shows}
-use Rattle.desk_saved.specs.Tables.{node_table, entry_table, client_table}
-use Rattle.desk_saved.specs.TableInSchema.{TableIn, NamesNone}
+use Rattle.desk_naming.specs.Tables.{node_table, entry_table, client_table}
+use Rattle.desk_naming.specs.TableInSchema.{TableIn}
+use Rattle.desk_saved.specs.ForeignKeys.{NamesNone}
+use Rattle.desk_naming.specs.Named.{shown_node, NodeTable}
 
 -- A schema with the three tables among any others: the tables that bear their names have exactly the columns, types and
 -- keys of the texts that make them, stand in trees of their own, and no foreign key of any table names them.
@@ -30,10 +32,9 @@ pub record LogTables : Type 0 where
   pub node : TableIn schema node_table
   pub entry : TableIn schema entry_table
 
--- the table of the node in a schema, be there the other two or not
-pub record NodeTable : Type 0 where
-  pub schema : Schema
-  pub node : TableIn schema node_table
+-- both stand in the schema
+abbrev pub HasLogTables : Schema → Type 0
+HasLogTables schema = (d : LogTables) × (schema ≡ d.schema)
 
 -- that of a schema with the entries too
 abbrev pub node_table_of : LogTables → NodeTable
@@ -62,11 +63,6 @@ up_to front rows = filter (λ r. not (is_past front r)) rows
 -- the columns of a row in the order of the table, as a query shows them
 abbrev pub shown_entry : Row → Row
 shown_entry r = column r 0 ∷ column r 2 ∷ column r 3 ∷ column r 4 ∷ []
-
--- the columns of a row of `node`, in their order, as a query shows them
-abbrev pub shown_node : Row → Row
-shown_node r = column r 0 ∷ column r 2 ∷ column r 3 ∷ column r 4 ∷ column r 5 ∷ column r 6 ∷ column r 7 ∷ column r 8
-    ∷ []
 
 -- the row of an entry at a place, as a query shows it
 abbrev pub entry_row : ℕ → ℕ → ℕ → List ℕ → Row

@@ -17,9 +17,9 @@ use Rattle.desk_log.specs.SavedValue.{SavedValue, IsSaved}
 use Rattle.desk_types.specs.declared.owner.Owner.{Owner}
 use Rattle.desk_log.specs.declared.clients.ClientRow.{ClientRow}
 use Rattle.desk_log.specs.Clients.{clients}
-use Rattle.desk_saved.specs.DeskTables.{shown_entry, shown_node, shown_client, entry_row, client_table_row, own_rows}
-use Rattle.desk_saved.specs.DeskTables.{Layout, LogTables, versioned_row}
-use Rattle.desk_saved.specs.DeskTables.{StateRows, Saves, HasRows}
+use Rattle.desk_saved.specs.DeskTables.{shown_entry, shown_client, entry_row, client_table_row, own_rows, Layout}
+use Rattle.desk_saved.specs.DeskTables.{LogTables, versioned_row, StateRows, Saves, HasRows}
+use Rattle.desk_naming.specs.Named.{shown_node}
 
 -- the row of an entry at a place, with the spelling of its command as the body
 abbrev pub entry_row_at : ℕ → Entry → Row

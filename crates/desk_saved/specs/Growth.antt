@@ -9,11 +9,11 @@ use Rattle.desk_types.specs.declared.owner.Owner.{Owner}
 use Rattle.desk_types.specs.declared.refusal.Refusal.{Refusal}
 use Rattle.desk_types.specs.declared.refusal.Refusal.TheVariants as refusals
 use Rattle.desk_log.specs.SavedValue.{SavedValue}
-use Rattle.desk_saved.specs.Contents.{trees_of}
+use Rattle.desk_naming.specs.Contents.{trees_of}
 use Rattle.desk_saved.specs.DeskTables.{Layout, Saves, KeepsOthers, KeepsEntryRows, log_tables}
 use Rattle.desk_saved.specs.File.{state_rows}
 use Rattle.desk_saved.specs.OldFile.{GrowsTo, HasOldFile, IsGrown}
-use Rattle.desk_saved.specs.AfterRefusal.{ShowsAsBefore}
+use Rattle.desk_naming.specs.AfterRefusal.{ShowsAsBefore}
 use Rattle.desk_saved.specs.Causes.{HasNoTransaction}
 use Rattle.desk_saved.specs.Store.{StoreValue}
 
@@ -47,7 +47,7 @@ pub record HasGrown {S : Type 0} (g : Ghosts S) (before : Held S) (owner : Owner
 pub record HasNotGrown {S : Type 0} (g : Ghosts S) (before : Held S) (owner : Owner) (s : SavedValue)
     (after : Held S) (refusal : Refusal) : Type 0 where
   pub fault : ((refusal ≡ refusals.WantOfMemory) × (after ≡ before)) ⊎ (refusal ≡ refusals.StoreFault)
-  -- A fault of the store is told only where a transaction was open already, or one was begun and rolled back.
+  -- A fault of the store is reported only where a transaction was open already, or one was begun and rolled back.
   pub cause : refusal ≡ refusals.StoreFault → HasCleanDisk (state g after)
       → IsTrue (state g before).in_transaction ⊎ HasNoTransaction (state g after)
   pub may : MayGrow g before owner s after

@@ -7,11 +7,11 @@ use Rattle.sqlite.specs.Held.{state}
 use Rattle.desk_types.specs.declared.refusal.Refusal.{Refusal}
 use Rattle.desk_types.specs.declared.refusal.Refusal.TheVariants as refusals
 use Rattle.desk_log.specs.SavedValue.{SavedValue}
-use Rattle.desk_saved.specs.Contents.{schema_of, trees_of}
+use Rattle.desk_naming.specs.Contents.{schema_of, trees_of}
 use Rattle.desk_saved.specs.DeskTables.{Layout}
 use Rattle.desk_saved.specs.File.{IsState, HasFile, HasNoState, HoldsFile}
-use Rattle.desk_saved.specs.AfterRefusal.{IsSettled, ShowsAsBefore}
-use Rattle.desk_saved.specs.Causes.{RefusesRead}
+use Rattle.desk_naming.specs.AfterRefusal.{IsSettled, ShowsAsBefore}
+use Rattle.desk_naming.specs.Reads.{RefusesRead}
 use Rattle.desk_saved.specs.Saving.{WhereHeld}
 use Rattle.desk_saved.specs.Store.{StoreValue}
 
@@ -23,11 +23,13 @@ WhereFound g old new Then = old.stopped ≡ false → HasCleanDisk (state g new.
 -- An object answers a load.
 pub record HasLoaded {S : Type 0} (g : Ghosts S) (old new : StoreValue S) (result : Result SavedValue Refusal) :
     Type 0 where
-  -- A stopped object answers 34. A running one is refused by 40, 41 or 45, and 41 stops it.
+  -- A stopped object answers `NodeStopped`. A running one is refused by `WantOfMemory`, `StoreFault` or `WrongFile`,
+  -- and `StoreFault` stops it.
   pub stopped : IsTrue old.stopped → (result ≡ Err refusals.NodeStopped) × (new ≡ old)
   pub fault : old.stopped ≡ false → IfErr result (λ r. (r ≡ refusals.StoreFault → IsTrue new.stopped)
       × ((r ≡ refusals.StoreFault) ⊎ ((r ≡ refusals.WantOfMemory) ⊎ (r ≡ refusals.WrongFile))))
-  -- A refused growth of the desk's own is 40: 41 is told only where the database refused to read a table.
+  -- A refused growth of the desk's own is `WantOfMemory`: `StoreFault` is reported only where the database refused to
+  -- read a table.
   pub cause : WhereFound g old new (λ _. IfErr result (λ r. r ≡ refusals.StoreFault
       → RefusesRead g old.connection new.connection))
   pub running_ok : old.stopped ≡ false → OnOk result (new.stopped ≡ false)
@@ -37,12 +39,12 @@ pub record HasLoaded {S : Type 0} (g : Ghosts S) (old new : StoreValue S) (resul
   -- A stop leaves nothing that it did not leave before.
   pub left : HasCleanDisk (state g new.connection) → (d : Layout) → schema_of g old.connection ≡ d.schema
       → (trees : Trees) → (state g new.connection).may_leave trees → (state g old.connection).may_leave trees
-  -- It is the saved state that has the rows, and 45 only where none of the node has them.
+  -- It is the saved state that has the rows, and `WrongFile` only where none of the node has them.
   pub found : WhereFound g old new (λ d. IfOk result (λ s. IsState s
       × HasFile d old.owner s (trees_of g old.connection)))
   pub none : WhereFound g old new (λ d. IfErr result (λ r. r ≡ refusals.WrongFile
       → HasNoState d old.owner (trees_of g old.connection)))
-  -- But for 41 the connection and what the tables hold are as they were.
+  -- But for `StoreFault` the connection and what the tables hold are as they were.
   pub same : WhereFound g old new (λ _. OnOk result
       (IsUnchanged (state g old.connection) (state g new.connection)))
   pub unchanged : WhereFound g old new (λ _. IfErr result (λ r. r ≢ refusals.StoreFault
@@ -50,7 +52,7 @@ pub record HasLoaded {S : Type 0} (g : Ghosts S) (old new : StoreValue S) (resul
   pub holds : WhereHeld g old (λ d. OnOk result (HoldsFile g d new.connection new.owner new.last))
   pub holds_err : WhereHeld g old (λ d. IfErr result (λ r. r ≢ refusals.StoreFault
       → HoldsFile g d new.connection new.owner new.last))
-  -- After 41 a connection that is still open shows the database as it was.
+  -- After `StoreFault` a connection that is still open shows the database as it was.
   pub store_fault : WhereFound g old new (λ _. IsSettled (state g old.connection)
       → IfErr result (λ r. r ≡ refusals.StoreFault
       → ShowsAsBefore (state g old.connection) (state g new.connection)))

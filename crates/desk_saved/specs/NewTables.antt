@@ -7,9 +7,9 @@ use Rattle.sqlite_catalog.specs.Change.{created, next_tree, KeepsRows}
 use Rattle.sqlite.specs.Does.{lacks_sequence}
 use Rattle.sqlite.specs.Effect.{IsDatabase}
 use Rattle.sqlite.specs.State.{State, Shows}
-use Rattle.desk_saved.specs.declared.limits.TheConstants.{TREES}
-use Rattle.desk_saved.specs.Tables.{node_table, entry_table, client_table}
-use Rattle.desk_saved.specs.TableInSchema.{NamesNone}
+use Rattle.desk_naming.specs.declared.limits.TheConstants.{TREES}
+use Rattle.desk_naming.specs.Tables.{node_table, entry_table, client_table}
+use Rattle.desk_saved.specs.ForeignKeys.{NamesNone}
 use Rattle.desk_saved.specs.DeskTables.{Layout}
 
 -- no table, view or index has the name

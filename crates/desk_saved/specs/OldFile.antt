@@ -11,9 +11,9 @@ use Rattle.desk_types.specs.declared.owner.Owner.{Owner}
 use Rattle.desk_log.specs.SavedValue.{SavedValue}
 use Rattle.desk_codec.specs.Version.{is_new_entry}
 use Rattle.desk_types.specs.declared.limits.TheConstants.{FIRST_LOG_ENTRIES}
-use Rattle.desk_saved.specs.declared.limits.TheConstants.{TREES}
-use Rattle.desk_saved.specs.Tables.{client_table}
-use Rattle.desk_saved.specs.TableInSchema.{NamesNone}
+use Rattle.desk_naming.specs.declared.limits.TheConstants.{TREES}
+use Rattle.desk_naming.specs.Tables.{client_table}
+use Rattle.desk_saved.specs.ForeignKeys.{NamesNone}
 use Rattle.desk_saved.specs.DeskTables.{Layout, LogTables, Changes, log_tables}
 use Rattle.desk_saved.specs.File.{HasOwnRow, HasEntryRows, HasLogFile, IsState, bears, state_rows}
 use Rattle.desk_saved.specs.NewTables.{IsFree, CanTake}

@@ -8,20 +8,20 @@ use Rattle.desk_types.specs.declared.owner.Owner.{Owner}
 use Rattle.desk_types.specs.declared.refusal.Refusal.{Refusal}
 use Rattle.desk_types.specs.declared.refusal.Refusal.TheVariants as refusals
 use Rattle.desk_log.specs.SavedValue.{SavedValue, initial_saved}
-use Rattle.desk_saved.specs.Contents.{schema_of, trees_of}
+use Rattle.desk_naming.specs.Contents.{schema_of, trees_of}
 use Rattle.desk_saved.specs.DeskTables.{Layout, KeepsOthers, KeepsEntryRows, Changes, own_rows}
 use Rattle.desk_saved.specs.File.{IsState, HasFile, HoldsFile, HasNoState, HasAll, HasNoTable, IsFileOf}
 use Rattle.desk_saved.specs.NewTables.{Becomes, HasRoomForTables}
-use Rattle.desk_saved.specs.OldFile.{HasOldTables, HasOldFile, HasNoOldState, HasRoomForClients, IsOldState}
-use Rattle.desk_saved.specs.OldFile.{GrowsTo, IsGrown, IsOldFileOf}
-use Rattle.desk_saved.specs.AfterRefusal.{IsOpeningRefusal, ShowsAsBefore}
+use Rattle.desk_saved.specs.OldFile.{HasOldTables, HasOldFile, HasNoOldState, HasRoomForClients, IsOldState, GrowsTo}
+use Rattle.desk_saved.specs.OldFile.{IsGrown, IsOldFileOf}
+use Rattle.desk_naming.specs.AfterRefusal.{ShowsAsBefore, LeavesNoMore}
 use Rattle.desk_saved.specs.Causes.{HasOpeningCause}
 use Rattle.desk_saved.specs.SchemaRefusals.{HasTables, IsReferredTo, IsDeskSchema}
 use Rattle.desk_saved.specs.Store.{StoreValue}
 
--- A stop leaves nothing that it did not leave before.
-abbrev pub LeavesNoMore : State → State → Type 0
-LeavesNoMore before after = HasCleanDisk after → (trees : Trees) → after.may_leave trees → before.may_leave trees
+-- an open is refused for want of memory, by a fault of the store, or as the file is none of the node's
+abbrev pub IsOpeningRefusal : Refusal → Type 0
+IsOpeningRefusal r = (r ≡ refusals.WantOfMemory) ⊎ (r ≡ refusals.StoreFault) ⊎ (r ≡ refusals.WrongFile)
 
 -- A stop leaves what it left before, or the three tables with the row of a node that has done nothing, beside others.
 abbrev pub LeavesFirst : Owner → State → State → Type 0
@@ -106,9 +106,9 @@ pub record HasOpened {S : Type 0} (g : Ghosts S) (before : Held S) (owner : Owne
   pub only : ¬ HasNoTable (schema_of g before) → HasCleanDisk (state g file.connection)
       → IsFileOf owner (state g before).now file.last ⊎ IsOldFileOf owner (state g before).now file.last
 
--- A database that is none of the node's is refused with nothing changed: by 45 where one table is there and they are
--- neither the three of a desk nor the two of version 1, by 41 where they are the three but for a foreign key, or where
--- there is none and no room for them.
+-- A database that is none of the node's is refused with nothing changed: by `WrongFile` where one table is there and
+-- they are neither the three of a desk nor the two of version 1, by `StoreFault` where they are the three but for a
+-- foreign key, or where there is none and no room for them.
 pub record RefusesSchema {S : Type 0} (g : Ghosts S) (before after : Held S) (refusal : Refusal) : Type 0 where
   pub other : ¬ HasNoTable (schema_of g before) → ¬ HasTables (schema_of g before)
       → ¬ HasOldTables (schema_of g before) → (refusal ≡ refusals.WrongFile) × (after ≡ before)
@@ -116,14 +116,16 @@ pub record RefusesSchema {S : Type 0} (g : Ghosts S) (before after : Held S) (re
   pub room : HasNoTable (schema_of g before) → ¬ HasRoomForTables (schema_of g before)
       → (refusal ≡ refusals.StoreFault) × (after ≡ before)
 
--- An open for a node is refused by 40, 41 or 45. So, but for 40 and 41, it is 45 where the rows are those of no saved
--- state of the node, nor of version 1 in the tables of version 1.
+-- An open for a node is refused by `WantOfMemory`, `StoreFault` or `WrongFile`. So, but for `WantOfMemory` and
+-- `StoreFault`, it is `WrongFile` where the rows are those of no saved state of the node, nor of version 1 in the
+-- tables of version 1.
 pub record HasRefused {S : Type 0} (g : Ghosts S) (before : Held S) (owner : Owner) (after : Held S)
     (refusal : Refusal) : Type 0 where
   pub fault : IsOpeningRefusal refusal
   pub limit : (state g after).step_limit ≡ (state g before).step_limit
   pub schema : RefusesSchema g before after refusal
-  -- It is 45 only where one table is there and no saved state of the node has the rows, and nothing is changed then.
+  -- It is `WrongFile` only where one table is there and no saved state of the node has the rows, and nothing is changed
+  -- then.
   pub unfit : refusal ≡ refusals.WrongFile → ¬ HasNoTable (schema_of g before)
   pub no_state : HasAll (schema_of g before) → refusal ≡ refusals.WrongFile → HasCleanDisk (state g after)
       → (d : Layout) → schema_of g before ≡ d.schema → HasNoState d owner (trees_of g before)
@@ -131,12 +133,12 @@ pub record HasRefused {S : Type 0} (g : Ghosts S) (before : Held S) (owner : Own
       → HasCleanDisk (state g after) → HasNoOldState old.tables owner (trees_of g before)
   pub unchanged : refusal ≡ refusals.WrongFile → HasCleanDisk (state g after)
       → (after ≡ before) ⊎ IsUnchanged (state g before) (state g after)
-  -- After 40 the database is as it was; where none of the tables was there, so is the connection.
+  -- After `WantOfMemory` the database is as it was; where none of the tables was there, so is the connection.
   pub want_of_memory : refusal ≡ refusals.WantOfMemory → HasCleanDisk (state g after)
       → (HasNoTable (schema_of g before) × (after ≡ before)) ⊎ IsUnchanged (state g before) (state g after)
-  -- A refused growth of the desk's own is 40: 41 has one of these causes.
+  -- A refused growth of the desk's own is `WantOfMemory`: `StoreFault` has one of these causes.
   pub cause : refusal ≡ refusals.StoreFault → HasCleanDisk (state g after) → HasOpeningCause g before after
-  -- After 41 a connection that is still open shows the database as it was, and nothing made.
+  -- After `StoreFault` a connection that is still open shows the database as it was, and nothing made.
   pub store_fault : refusal ≡ refusals.StoreFault → HasCleanDisk (state g after)
       → ShowsAsBefore (state g before) (state g after)
   -- A stop leaves the database as it was, or with the tables made, or with that of the clients beside the other two.

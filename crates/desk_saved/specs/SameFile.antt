@@ -9,7 +9,7 @@ use Rattle.sqlite.specs.Effect.{Database, IsDatabase}
 use Rattle.sqlite.specs.State.{State, HasCleanDisk}
 use Rattle.sqlite.specs.Held.{state}
 use Rattle.desk_log.specs.SavedValue.{SavedValue}
-use Rattle.desk_saved.specs.Contents.{trees_of}
+use Rattle.desk_naming.specs.Contents.{trees_of}
 use Rattle.desk_saved.specs.DeskTables.{Layout, IsOther, KeepsOthers}
 use Rattle.desk_saved.specs.File.{IsState, IsFileOf}
 use Rattle.desk_saved.specs.Saving.{KeepsFile, WhereHeld}
@@ -47,7 +47,7 @@ rows_then d a b c (t ∷ tables) p q = (λ other. q.0 other ∙ p.0 other, rows_
 pub others_same : (d : Layout) (trees : Trees) → KeepsOthers d trees trees
 others_same d trees = same_rows d trees d.schema.tables
 
--- and as they were, where they were kept twice
+-- and as they were, where they were preserved twice
 pub others_then : (d : Layout) (a b c : State) → KeepsOthers d a.now.trees b.now.trees
     → KeepsOthers d b.now.trees c.now.trees
     → KeepsOthers d a.now.trees c.now.trees

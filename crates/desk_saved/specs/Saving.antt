@@ -9,10 +9,10 @@ use Rattle.sqlite.specs.Held.{Held, state}
 use Rattle.desk_types.specs.declared.refusal.Refusal.{Refusal}
 use Rattle.desk_types.specs.declared.refusal.Refusal.TheVariants as refusals
 use Rattle.desk_log.specs.SavedValue.{SavedValue}
-use Rattle.desk_saved.specs.Contents.{trees_of}
+use Rattle.desk_naming.specs.Contents.{trees_of}
 use Rattle.desk_saved.specs.DeskTables.{Layout, KeepsOthers}
 use Rattle.desk_saved.specs.File.{IsState, HasFile, HoldsFile, IsFileOf}
-use Rattle.desk_saved.specs.AfterRefusal.{ShowsAsBefore}
+use Rattle.desk_naming.specs.AfterRefusal.{ShowsAsBefore}
 use Rattle.desk_saved.specs.Store.{StoreValue}
 
 -- This is true of each desk in whose tables a running object holds the state that it saved last.
@@ -37,7 +37,7 @@ KeepsFile g old new = (d : Layout) → HoldsFile g d old.connection old.owner ol
 -- An object answers a save of the given state, and the rows become those of it, or stay as they are after a fault.
 pub record HasSaved {S T : Type 0} (g : Ghosts S) (old new : StoreValue S) (given : SavedValue)
     (result : Result T Refusal) : Type 0 where
-  -- A stopped object answers 34, and a fault of a running one is 41, which stops it.
+  -- A stopped object answers `NodeStopped`, and a fault of a running one is `StoreFault`, which stops it.
   pub stopped : IsTrue old.stopped → (result ≡ Err refusals.NodeStopped) × (new ≡ old)
   pub fault : old.stopped ≡ false → IfErr result (λ r. (r ≡ refusals.StoreFault) × IsTrue new.stopped)
   -- The state that was saved last needs no transaction: nothing is changed, the connection included.
@@ -47,7 +47,7 @@ pub record HasSaved {S T : Type 0} (g : Ghosts S) (old new : StoreValue S) (give
   pub is_state : IsState old.last → OnOk result (IsState given)
   pub clean : HasCleanDisk (state g new.connection) → HasCleanDisk (state g old.connection)
   pub limit : (state g new.connection).step_limit ≡ (state g old.connection).step_limit
-  -- After 41 a connection that is still open shows the database as it was, and no transaction of this call.
+  -- After `StoreFault` a connection that is still open shows the database as it was, and no transaction of this call.
   pub undone : old.stopped ≡ false → HasCleanDisk (state g new.connection)
       → OnErr result (ShowsAsBefore (state g old.connection) (state g new.connection))
   -- After Ok the rows are those of the given state, and the other tables have theirs.

@@ -8,8 +8,8 @@ use Rattle.desk_log.specs.SavedValue.{SavedValue}
 use Rattle.desk_types.specs.declared.owner.Owner.{Owner}
 use Rattle.desk_types.specs.contracts.owner.Owner as owner
 
--- the connection to the database, whose state it keeps, the state that it saved last, and whether it answers 34 for
--- good
+-- the connection to the database, whose state it keeps, the state that it saved last, and whether it answers
+-- `NodeStopped` for good
 pub record StoreValue (S : Type 0) : Type 0 where
   pub connection : Held S
   pub owner : Owner

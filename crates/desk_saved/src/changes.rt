@@ -10,7 +10,7 @@ ghost use Rattle.desk_codec.specs.Ranges.{FitsCommand};
 ghost use Rattle.desk_codec.specs.Spelling.{body_spelling};
 ghost use Rattle.desk_saved.specs.Changes.{change_effect, effects, IsSmall, IsFit, IsApt, Spares, SparesMissing};
 ghost use Rattle.desk_saved.specs.Changes.{StandsBefore, made_table};
-ghost use Rattle.desk_saved.specs.Contents.{schema_of};
+ghost use Rattle.desk_naming.specs.Contents.{schema_of};
 ghost use Rattle.desk_saved.specs.DeskTables.{Keeps, IsInside};
 ghost use Rattle.desk_saved.specs.NewTables.{CanTake, MakesTable};
 ghost use Rattle.desk_saved.specs.Transactions.{Quiet, Ran, MakesRows};

@@ -17,7 +17,7 @@ pub(crate) struct LastSaved {
     log: Log,
 }
 
-// It is written out, so that a caller does not prove again how each part is dropped.
+// Written out, so that callers need not prove each part's drop.
 impl Drop for LastSaved {
     fn drop(self) {
         let LastSaved { numbers: _, log: _ } = self;

@@ -15,9 +15,7 @@ ghost use Rattle.desk_saved.specs.OldFile.{GrowsTo, HasOldTables, HasRoomForClie
 
 mod changes;
 mod last_saved;
-mod limits;
 mod load;
-mod named;
 mod old_file;
 mod rows;
 mod saved_state;
@@ -26,8 +24,8 @@ mod state_store;
 mod steps;
 mod transactions;
 
+pub use desk_naming::{NamedOwner, named_owner};
 pub use desk_types::Owner;
-pub use named::{NamedOwner, named_owner};
 pub use saved_state::{OpenRefused, SavedState};
 pub use shown::referring_table;
 

@@ -1,26 +1,24 @@
 //! Reading the three tables.
 
-ghost use Rattle.std.specs.Prelude.{◌≡◌, ◌≤◌, ◌↔◌, length, map, IsTrue, IfOk, IfErr, MatchOption};
-ghost use Rattle.std.specs.List.Sorted.{IsPermutation};
+ghost use Rattle.std.specs.Prelude.{◌≡◌, ◌≤◌, ◌↔◌, length, IsTrue, IfOk, MatchOption};
 ghost use Rattle.sqlite.specs.State.{HasCleanDisk, Survives};
 ghost use Rattle.sqlite.specs.Held.{state};
-ghost use Rattle.desk_types.specs.declared.refusal.Refusal.TheVariants as refusals;
-ghost use Rattle.desk_saved.specs.Contents.{schema_of, trees_of};
-ghost use Rattle.desk_saved.specs.DeskTables.{Layout, LogTables, NodeTable, shown_node};
+ghost use Rattle.desk_naming.specs.Contents.{schema_of, trees_of};
+ghost use Rattle.desk_saved.specs.DeskTables.{Layout, LogTables, HasLogTables};
 ghost use Rattle.desk_saved.specs.File.{HasLog, HasNoLog, HasOwn, HasNoOwn, IsState, HasNoState, HasFile};
 ghost use Rattle.desk_codec.specs.Ranges.{FitsEntries};
 ghost use Rattle.desk_saved.specs.File.{HasClients, HasLogFile, HasNoLogFile};
-ghost use Rattle.desk_saved.specs.Named.{HasNodeTable};
-ghost use Rattle.desk_saved.specs.Reads.{HasRead, HasLogTables};
+ghost use Rattle.desk_naming.specs.Reads.{HasRead};
 ghost use Rattle.desk_saved.specs.SchemaRefusals.{IsDeskSchema};
 
 use crate::last_saved::LastSaved;
 use crate::rows::{are_clients_of, log_in, own_among};
 use crate::transactions::Numbers;
 use desk_log::Log;
+use desk_naming::node_rows;
 use desk_types::limits::{LAST_VIEW, LOG_ENTRIES};
 use desk_types::{Entry, Owner, Refusal};
-use sqlite::{Alter, Connection, Row};
+use sqlite::{Alter, Connection};
 use std::alloc::Global;
 
 /// The version of a file, as the row of the node tells it.
@@ -48,25 +46,6 @@ fn load_log<S: Alter>(
     };
     let found = log_in(alloc, rows.as_slice())?;
     Ok(found)
-}
-
-/// The rows of the node's table, in any order.
-pub(crate) fn node_rows<S: Alter>(conn: &mut Connection<S>) -> Result<Vec<Row>, Refusal>
-    ensures shown { HasCleanDisk (state S.Store conn.new) → (d : NodeTable)
-        → schema_of S.Store conn.old ≡ d.schema
-        → IfOk result (λ rows. IsPermutation rows.items (map shown_node (trees_of S.Store conn.old d.node.tree))) }
-    ensures crash { (d : NodeTable) → schema_of S.Store conn.old ≡ d.schema
-        → Survives (state S.Store conn.old) (state S.Store conn.new) (λ _. ⊥) }
-    ensures refused { IfErr result (λ r. r ≡ refusals.StoreFault) }
-    ensures read { HasRead S.Store conn.old conn.new HasNodeTable result }
-{
-    match conn.query_all(
-        "SELECT slot, version, id, n, domain, view_no, normal_no, commit_no FROM node",
-        &[],
-    ) {
-        Ok(rows) => Ok(rows),
-        Err(_) => Err(Refusal::StoreFault),
-    }
 }
 
 /// The numbers in the node's table, where it has the node's own row alone.

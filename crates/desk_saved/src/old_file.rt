@@ -5,10 +5,10 @@ ghost use Rattle.std.specs.List.{list_any};
 ghost use Rattle.sqlite.specs.State.{HasCleanDisk};
 ghost use Rattle.sqlite.specs.Held.{state};
 ghost use Rattle.desk_codec.specs.Version.{is_new_entry};
-ghost use Rattle.desk_saved.specs.Contents.{schema_of, trees_of};
-ghost use Rattle.desk_saved.specs.DeskTables.{LogTables};
+ghost use Rattle.desk_naming.specs.Contents.{schema_of, trees_of};
+ghost use Rattle.desk_saved.specs.DeskTables.{LogTables, HasLogTables};
 ghost use Rattle.desk_saved.specs.OldFile.{IsOldState, HasOldFile, HasNoOldState};
-ghost use Rattle.desk_saved.specs.Reads.{HasRead, HasLogTables};
+ghost use Rattle.desk_naming.specs.Reads.{HasRead};
 
 use crate::last_saved::LastSaved;
 use crate::load::load_saved;

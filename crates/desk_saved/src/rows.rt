@@ -17,23 +17,10 @@ ghost use Rattle.desk_saved.specs.File.{AreNoLog, AreRisingClients, IsNotOwn};
 use crate::transactions::Numbers;
 use desk_codec::get_body;
 use desk_log::{ClientRow, Log};
+use desk_naming::read;
 use desk_types::{ClientId, Command, Entry, RequestNumber, WantOfMemory};
-use sqlite::types::FromSql;
-use sqlite::{Error, ErrorCode, Row};
+use sqlite::Row;
 use std::alloc::Global;
-
-/// What a column of a row holds, where it is there and of the type.
-pub(crate) fn read<T: FromSql>(row: &Row, at: usize) -> Result<Option<T>, WantOfMemory>
-    ensures { IfOk result (λ found. MatchOption found
-        (at < length row.now → ¬ T.FromSql.is_readable (column row.now at))
-        (λ x. T.FromSql.reads_as (column row.now at) x)) }
-{
-    match row.get(at) {
-        Ok(x) => Ok(Some(x)),
-        Err(Error::SqliteFailure(ErrorCode::OutOfMemory)) => Err(WantOfMemory),
-        Err(_) => Ok(None),
-    }
-}
 
 /// The client that a column holds.
 fn read_client(row: &Row, at: usize) -> Result<Option<ClientId>, WantOfMemory>

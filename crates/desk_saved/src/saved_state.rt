@@ -4,7 +4,7 @@ ghost use Rattle.std.specs.Prelude.{◌≡◌, ◌≤◌, length, take, IsTrue, 
 ghost use Rattle.sqlite.specs.State.{IsLive};
 ghost use Rattle.sqlite.specs.Held.{state};
 ghost use Rattle.desk_types.specs.declared.refusal.Refusal.TheVariants as refusals;
-ghost use Rattle.desk_saved.specs.Contents.{schema_of};
+ghost use Rattle.desk_naming.specs.Contents.{schema_of};
 ghost use Rattle.desk_saved.specs.File.{HasNoTable};
 ghost use Rattle.desk_saved.specs.Growth.{HasGrown, HasNotGrown};
 ghost use Rattle.desk_saved.specs.NewTables.{HasRoomForTables};
@@ -44,7 +44,7 @@ pub struct SavedState<S: Alter> {
     alloc: Global,
 }
 
-// It is written out, so that a caller does not prove again how each part is dropped.
+// Written out, so that callers need not prove each part's drop.
 impl<S: Alter + Drop> Drop for SavedState<S> {
     fn drop(self) {
         let SavedState {
@@ -259,9 +259,9 @@ impl<S: Alter> SavedState<S> {
     /// Opens the saved state of a node, and makes it where the database has none of the tables. A whole file of version
     /// 1 becomes one of version 2, in one transaction that writes no row of the entries. A database that has other
     /// tables of these names, or some of the three but for those of version 1, or rows that are no saved state of the
-    /// node, is refused by 45. One whose tables a foreign key names, and one to which the tables that it lacks can't be
-    /// added, are refused by 41, as after any fault of the database, which may be that memory was refused to it; a
-    /// refused growth of the desk's own is 40.
+    /// node, is refused by `WrongFile`. One whose tables a foreign key names, and one to which the tables that it lacks
+    /// can't be added, are refused by `StoreFault`, as after any fault of the database, which may be that memory was
+    /// refused to it; a refused growth of the desk's own is `WantOfMemory`.
     pub fn open(
         alloc: Global,
         connection: Connection<S>,
@@ -293,9 +293,9 @@ impl<S: Alter> SavedState<S> {
         open_new(alloc, connection, owner)
     }
 
-    /// The saved state that the tables hold. Rows that are no saved state of the node are refused by 45, and a refused
-    /// growth of the desk's own by 40. Where the database answers a fault, which may be that memory was refused to it,
-    /// it is 41, and the object answers 34 from then on.
+    /// The saved state that the tables hold. Rows that are no saved state of the node are refused by `WrongFile`, and a
+    /// refused growth of the desk's own by `WantOfMemory`. Where the database answers a fault, which may be that memory
+    /// was refused to it, it is `StoreFault`, and the object answers `NodeStopped` from then on.
     pub fn load(&mut self) -> Result<Saved, Refusal>
         ensures { HasLoaded S.Store self.old self.new result }
     {
@@ -313,7 +313,8 @@ impl<S: Alter> SavedState<S> {
         }
     }
 
-    /// A copy of the state that was saved last. A refused growth is 40, and after 41 of an earlier call it is 34.
+    /// A copy of the state that was saved last. A refused growth is `WantOfMemory`, and after `StoreFault` of an
+    /// earlier call it is `NodeStopped`.
     pub fn last_saved(&self) -> Result<Saved, Refusal>
         ensures stopped { IsTrue self.now.stopped → result ≡ Err refusals.NodeStopped }
         ensures saved { IfOk result (λ s. s ≡ self.now.last) }
@@ -327,8 +328,8 @@ impl<S: Alter> SavedState<S> {
     }
 
     /// Makes the rows those of a saved state, in one transaction, or in none where that state is the one that was saved
-    /// last. Any fault of the database and any refused growth is 41, and the object answers 34 from then on. The logs
-    /// are compared from their first entries on.
+    /// last. Any fault of the database and any refused growth is `StoreFault`, and the object answers `NodeStopped`
+    /// from then on. The logs are compared from their first entries on.
     pub fn save(&mut self, saved: &Saved) -> Result<(), Refusal>
         ensures { HasSaved S.Store self.old self.new saved.now result }
     {
@@ -373,7 +374,7 @@ impl<S: Alter> SavedState<S> {
         }
     }
 
-    /// Answers 34 from now on.
+    /// Answers `NodeStopped` from now on.
     fn stop(&mut self) -> Refusal
         ensures value { result ≡ refusals.StoreFault }
         ensures stopped { self.new ≡ record self.old { stopped = true } }

@@ -1,29 +1,25 @@
 //! What the schema of a database shows of the three tables.
 
 ghost use Rattle.std.specs.Prelude.{◌≡◌, ◌↔◌, IsTrue, false, codes, find};
-ghost use Rattle.std.specs.Option.{option_copied, option_map};
+ghost use Rattle.std.specs.Option.{option_map};
 ghost use Rattle.sqlite.specs.State.{IsLive};
 ghost use Rattle.sqlite.specs.Held.{state};
-ghost use Rattle.desk_saved.specs.Contents.{schema_of};
+ghost use Rattle.desk_naming.specs.Contents.{schema_of};
 ghost use Rattle.desk_saved.specs.File.{bears};
-ghost use Rattle.desk_saved.specs.Named.{HasNodeTable};
 ghost use Rattle.desk_saved.specs.OldFile.{HasOldTables, HasRoomForClients};
-ghost use Rattle.desk_saved.specs.TableInSchema.{HasOwnTree};
-ghost use Rattle.desk_saved.specs.Tables.{node_table, entry_table, client_table};
-ghost use Rattle.desk_saved.specs.SchemaRefusals.{table_of, HasTables, IsDeskSchema, IsRefusedBy, refers_to_desk};
+ghost use Rattle.desk_naming.specs.TableInSchema.{HasOwnTree};
+ghost use Rattle.desk_naming.specs.Tables.{node_table, entry_table, client_table};
+ghost use Rattle.desk_saved.specs.SchemaRefusals.{HasTables, IsDeskSchema, IsRefusedBy, refers_to_desk};
 
-mod check;
 mod columns;
 mod others;
 mod room;
-mod rules;
 
-use check::is_slot_check;
-use columns::{are_client_columns, are_entry_columns, are_node_columns};
+use columns::{are_client_columns, are_entry_columns};
+use desk_naming::{find_table, has_key_alone, has_own_tree, is_node};
 use desk_types::Refusal;
-use others::{has_own_tree, names_none, refers_to_desk};
+use others::{names_none, refers_to_desk};
 use room::{has_room_for_all, has_room_for_clients};
-use rules::has_key_alone;
 use sqlite::{Alter, Connection};
 use sqlite_schema::names::same_name;
 use sqlite_schema::schema::{Schema, Table};
@@ -37,23 +33,6 @@ fn has_table(schema: &Schema, name: &[u8]) -> bool
         .as_slice()
         .iter()
         .any(|table| same_name(table.name.as_slice(), name))
-}
-
-/// The table that SQL finds by a name.
-fn find_table<'a>(schema: &'a Schema, name: &[u8]) -> Option<&'a Table>
-    ensures { option_copied result ≡ table_of schema.now name.now }
-{
-    schema.tables.get(schema.table_named(name)?)
-}
-
-/// Whether it is the table of the node, in its tree.
-fn is_node(table: &Table) -> bool
-    ensures { IsTrue result ↔ (table.now ≡ node_table table.now.tree) }
-{
-    table.name.as_slice() == b"node".as_slice()
-        && are_node_columns(table.columns.as_slice())
-        && is_slot_check(&table.checks)
-        && has_key_alone(table)
 }
 
 /// Whether it is the table of the entries, in its tree.
@@ -132,23 +111,6 @@ fn has_old_tables(schema: &Schema) -> bool
     are_old_tables(schema, node, entry)
 }
 
-/// Whether a table is that of the node, in a tree of its own.
-fn is_own_node(schema: &Schema, node: &Table) -> bool
-    ensures { IsTrue result ↔ ((node.now ≡ node_table node.now.tree) × HasOwnTree schema.now node.now) }
-{
-    is_node(node) && has_own_tree(schema, node)
-}
-
-/// Whether the table of the node stands in the schema.
-fn has_node_table(schema: &Schema) -> bool
-    ensures { IsTrue result ↔ HasNodeTable schema.now }
-{
-    let Some(node) = find_table(schema, b"node") else {
-        return false;
-    };
-    is_own_node(schema, node)
-}
-
 /// Whether the schema has the three tables as a desk has them, and nothing else names them.
 fn is_desk_schema(schema: &Schema) -> bool
     ensures { IsTrue result ↔ IsDeskSchema schema.now }
@@ -169,13 +131,6 @@ pub(crate) fn is_old_desk<S: Alter>(conn: &Connection<S>) -> bool
     ensures { IsTrue result ↔ HasOldTables (schema_of S.Store conn.now) }
 {
     has_old_tables(conn.schema())
-}
-
-/// Whether the database has the table of the node as a desk has it, be there the other two or not.
-pub(crate) fn has_node<S: Alter>(conn: &Connection<S>) -> bool
-    ensures { IsTrue result ↔ HasNodeTable (schema_of S.Store conn.now) }
-{
-    has_node_table(conn.schema())
 }
 
 /// Whether the table of the clients can be added to a database.
@@ -205,7 +160,7 @@ pub(crate) fn refusal_of<S: Alter>(conn: &Connection<S>) -> Option<Refusal>
 }
 
 /// The name of the first table with a foreign key that names one of the three tables. A database that has one is
-/// refused by 41, unless one of the three is there and they are not those of a desk.
+/// refused by `StoreFault`, unless one of the three is there and they are not those of a desk.
 pub fn referring_table<S: Alter>(connection: &Connection<S>) -> Option<&[u8]>
     ensures { option_map (λ name. name.now) result
         ≡ option_map (λ t. t.name) (find refers_to_desk (schema_of S.Store connection.now).tables) }

@@ -4,7 +4,7 @@ ghost use Rattle.std.specs.Prelude.{◌≡◌, ◌↔◌, ◌≤◌, length, IsT
 ghost use Rattle.std.specs.List.{AllByRecursion};
 ghost use Rattle.sqlite.specs.State.{HasCleanDisk};
 ghost use Rattle.sqlite.specs.Held.{state};
-ghost use Rattle.desk_saved.specs.AfterRefusal.{ShowsAsBefore, KeepsFaultsAndLimit};
+ghost use Rattle.desk_naming.specs.AfterRefusal.{ShowsAsBefore, KeepsFaultsAndLimit};
 ghost use Rattle.desk_saved.specs.Causes.{HasNoTransaction};
 ghost use Rattle.desk_saved.specs.Changes.{effects, IsSmallStep, IsFitStep, AreApt, SparesAll, StandsBefore};
 ghost use Rattle.desk_saved.specs.Transactions.{MakesRows, Transacts};

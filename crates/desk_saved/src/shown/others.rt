@@ -2,32 +2,11 @@
 
 ghost use Rattle.std.specs.Prelude.{◌≡◌, ◌↔◌, IsTrue};
 ghost use Rattle.std.specs.List.{AllByRecursion};
-ghost use Rattle.desk_saved.specs.TableInSchema.{HasOwnTree, IsOtherName, NamesNone, is_desk_name};
+ghost use Rattle.desk_saved.specs.ForeignKeys.{IsOtherName, NamesNone, is_desk_name};
 ghost use Rattle.desk_saved.specs.SchemaRefusals.{refers_to_desk};
 
-use crate::limits::TREES;
 use sqlite_schema::names::same_name;
 use sqlite_schema::schema::{Reference, Schema, Table};
-
-/// Whether a table is in another tree than one of that name.
-fn is_apart(table: &Table, tree: u32, name: &[u8]) -> bool
-    ensures { IsTrue result ↔ (table.now.tree ≡ tree → table.now.name ≡ name.now) }
-{
-    table.tree != tree || table.name.as_slice() == name
-}
-
-/// Whether a table has its tree to itself.
-pub(super) fn has_own_tree(schema: &Schema, table: &Table) -> bool
-    ensures { IsTrue result ↔ HasOwnTree schema.now table.now }
-{
-    let name = table.name.as_slice();
-    table.tree < TREES
-        && schema
-            .tables
-            .as_slice()
-            .iter()
-            .all(|other| is_apart(other, table.tree, name))
-}
 
 /// Whether SQL takes a name for that of one of the three tables.
 fn is_desk_name(name: &[u8]) -> bool

@@ -7,9 +7,8 @@ ghost use Rattle.sqlite_catalog.specs.Change.{next_tree};
 ghost use Rattle.desk_saved.specs.NewTables.{IsFree, HasRoomForTables};
 ghost use Rattle.desk_saved.specs.OldFile.{HasRoomForClients};
 
-use super::find_table;
 use super::others::names_none;
-use crate::limits::TREES;
+use desk_naming::{TREES, find_table};
 use sqlite_catalog::layout::next_tree;
 use sqlite_schema::schema::Schema;
 

@@ -3,7 +3,7 @@ use Rattle.std.proofs.lemmas.Result.{err_from_is_err_and}
 use Rattle.desk_types.specs.declared.command.Entry.{Entry}
 use Rattle.desk_log.specs.SavedValue.{committed_entries}
 use Rattle.desk_archive.specs.Lines.{AppendsLines, AppendsFirstLines, entries_from}
-use Rattle.desk_archive.proofs.LinesInOrder.{behind_is, from_is, nothing_first}
+use Rattle.desk_archive.proofs.LinesInOrder.{rest_after_is, from_is, nothing_first}
 use Rattle.desk_archive.proofs.archived.archive_state.Goals as goal
 
 pub returns-in_err-saved-clause-err : goal.returns-in_err-saved-clause-err
@@ -32,7 +32,7 @@ returns-in_err-write_documents-clause-err g c =
     c.from_residual-in_err-write_documents.ensures.1 in
     rw p.1 (subst (λ (es : List Entry). AppendsFirstLines es (g.W.Write.contents c.args.writer.now)
     (g.W.Write.contents c.write_documents.new.writer))
-    (behind_is c.min-first.result c.split_at.result.0.now ∙ is) c.in_err-write_documents.ensures.err)
+    (rest_after_is c.min-first.result c.split_at.result.0.now ∙ is) c.in_err-write_documents.ensures.err)
 
 pub returns-clause-ok : goal.returns-clause-ok
 returns-clause-ok g c =
@@ -54,4 +54,4 @@ returns-clause-ok g c =
     (from_is c.args.past c.args.from last.commit last.log within) in
     subst (λ (es : List Entry). AppendsLines es (g.W.Write.contents c.args.writer.now)
     (g.W.Write.contents c.write_documents.new.writer))
-    (behind_is c.min-first.result c.split_at.result.0.now ∙ is) c.in_ok-write_documents.ensures.ok
+    (rest_after_is c.min-first.result c.split_at.result.0.now ∙ is) c.in_ok-write_documents.ensures.ok

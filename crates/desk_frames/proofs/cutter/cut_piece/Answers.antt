@@ -1,8 +1,7 @@
-use Rattle.std.proofs.Common.{◌≡◌, ◌-◌, ◌+◌, ◌<◌, ◌≤◌, ◌++◌, ◌∙◌, ℕ, List, Option, Some, None, ap, arith, drop, length}
-use Rattle.std.proofs.Common.{subst, sym, take}
+use Rattle.std.proofs.Common.{◌≡◌, ◌-◌, ◌+◌, ◌<◌, ◌≤◌, ◌++◌, ◌∙◌, ℕ, List, ap, arith, drop, length, subst, sym, take}
 use Rattle.std.proofs.lemmas.List.{length-append, length-take-le}
 use Rattle.std.proofs.lemmas.Result.{on_err_weaker}
-use Rattle.desk_frames.specs.Frame.{HasCut, HasTaken}
+use Rattle.desk_frames.specs.Frame.{HasCut}
 use Rattle.desk_frames.proofs.Feeds.{all_front, awaits_room, cut_none, cut_waits, ok_joined, room_joined, still_on}
 use Rattle.desk_frames.proofs.Feeds.{taken_joined}
 use Rattle.desk_frames.proofs.cutter.cut_piece.Goals as goal
@@ -17,14 +16,9 @@ returns-in-Some-clause-ok c =
     let there = filled + length front in
     let count = c.in-Some.count in
     let f = c.args.frame.now in
-    let same : length waited ≡ filled =
-    length-take-le filled room (omega (arith, c.requires.room, c.requires.filled)) in
-    let whole : take there new ≡ waited ++ front =
-    room_joined waited front (drop there room) new there c.put.ensures (ap (λ k. k + length front) same) in
-    let h : HasTaken (take there new) f c.args.packets.now.items (Some count) c.step.new.frame
-    c.step.new.packets.items =
-    subst (λ (n : Option ℕ). HasTaken (take there new) f c.args.packets.now.items n c.step.new.frame
-    c.step.new.packets.items) c.in-Some.is c.in_ok-count.ensures.ok in
+    let same = length-take-le filled room (omega (arith, c.requires.room, c.requires.filled)) in
+    let whole = room_joined waited front (drop there room) new there c.put.ensures (ap (λ k. k + length front) same) in
+    let h = rw c.in-Some.is at c.in_ok-count.ensures.ok in
     let covers : length waited ≤ count = h.3 waited front whole c.requires.awaits in
     ok_joined c.cut_rest-in-Some.result waited c.args.piece.now (take count (take there new))
     c.split_at.result.1.now c.cut_rest-in-Some.new.room (count - filled) f c.step.new.frame c.cut_rest-in-Some.new.frame
@@ -38,10 +32,7 @@ pub returns-in-Some-clause-err : goal.returns-in-Some-clause-err
 returns-in-Some-clause-err c =
     let there = c.args.filled + length c.front_of-front.result.now in
     let bytes = take there c.put.new.room in
-    let h : HasTaken bytes c.args.frame.now c.args.packets.now.items (Some c.in-Some.count) c.step.new.frame
-    c.step.new.packets.items =
-    subst (λ (n : Option ℕ). HasTaken bytes c.args.frame.now c.args.packets.now.items n c.step.new.frame
-    c.step.new.packets.items) c.in-Some.is c.in_ok-count.ensures.ok in
+    let h = rw c.in-Some.is at c.in_ok-count.ensures.ok in
     on_err_weaker c.cut_rest-in-Some.result
     (still_on c.args.frame.now c.step.new.frame c.cut_rest-in-Some.new.frame
     c.args.packets.now.items c.step.new.packets.items c.cut_rest-in-Some.new.packets.items
@@ -56,14 +47,9 @@ returns-in-None-clause-less c =
     let front = c.front_of-front.result.now in
     let there = filled + length front in
     let f = c.args.frame.now in
-    let same : length waited ≡ filled =
-    length-take-le filled room (omega (arith, c.requires.room, c.requires.filled)) in
-    let whole : take there new ≡ waited ++ front =
-    room_joined waited front (drop there room) new there c.put.ensures (ap (λ k. k + length front) same) in
-    let h : HasTaken (take there new) f c.args.packets.now.items None c.step.new.frame
-    c.step.new.packets.items =
-    subst (λ (n : Option ℕ). HasTaken (take there new) f c.args.packets.now.items n c.step.new.frame
-    c.step.new.packets.items) c.in-None.is c.in_ok-count.ensures.ok in
+    let same = length-take-le filled room (omega (arith, c.requires.room, c.requires.filled)) in
+    let whole = room_joined waited front (drop there room) new there c.put.ensures (ap (λ k. k + length front) same) in
+    let h = rw c.in-None.is at c.in_ok-count.ensures.ok in
     let less = awaits_room f.place (take there new) h.2 in
     omega (arith, less, ap length whole, length-append waited front, same)
 
@@ -78,13 +64,9 @@ returns-in-None-clause-ok c =
     let there = filled + length front in
     let f = c.args.frame.now in
     let ms = c.args.packets.now.items in
-    let same : length waited ≡ filled =
-    length-take-le filled room (omega (arith, c.requires.room, c.requires.filled)) in
-    let whole : take there new ≡ waited ++ front =
-    room_joined waited front (drop there room) new there c.put.ensures (ap (λ k. k + length front) same) in
-    let h : HasTaken (take there new) f ms None c.step.new.frame c.step.new.packets.items =
-    subst (λ (n : Option ℕ). HasTaken (take there new) f ms n c.step.new.frame c.step.new.packets.items) c.in-None.is
-    c.in_ok-count.ensures.ok in
+    let same = length-take-le filled room (omega (arith, c.requires.room, c.requires.filled)) in
+    let whole = room_joined waited front (drop there room) new there c.put.ensures (ap (λ k. k + length front) same) in
+    let h = rw c.in-None.is at c.in_ok-count.ensures.ok in
     let less = awaits_room f.place (take there new) h.2 in
     let front_is : front ≡ take (length room - filled) piece = c.front_of-front.ensures in
     let few : length (take (length room - filled) piece) < length room - filled =

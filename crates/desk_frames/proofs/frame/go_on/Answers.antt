@@ -1,4 +1,4 @@
-use Rattle.std.proofs.Common.{arith, subst, ap, ◌∙◌, None, Some, Option, Vec, Global}
+use Rattle.std.proofs.Common.{arith, subst, ap, ◌∙◌, None, Some, Vec, Global}
 use Rattle.desk_types.specs.declared.command.Entry.{Entry}
 use Rattle.desk_codec.specs.Packets.{PacketOf}
 use Rattle.desk_frames.proofs.Steps.{goes_short, goes_whole, goes_over, goes_nowhere}

@@ -4,9 +4,9 @@ use Rattle.std.proofs.lemmas.Result.{err_from_is_err_and}
 use Rattle.sqlite.specs.Held.{state}
 use Rattle.desk_types.specs.declared.refusal.Refusal.TheVariants as refusals
 use Rattle.desk_saved.specs.SchemaRefusals.{IsDeskSchema}
-use Rattle.desk_saved.specs.Tables.{read_clients}
+use Rattle.desk_naming.specs.Tables.{read_clients}
 use Rattle.desk_saved.proofs.ClientsLoading.{clients_wide, clients_found, plain_clients}
-use Rattle.desk_saved.proofs.TableReads.{leaves_none, read_rows, read_refused, read_want}
+use Rattle.desk_naming.proofs.TableReads.{leaves_none, read_rows, read_refused, read_want}
 use Rattle.desk_saved.proofs.load.load_clients.Goals as goal
 
 pub returns-in-Err-clause-crash : goal.returns-in-Err-clause-crash

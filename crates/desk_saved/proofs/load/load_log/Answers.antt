@@ -3,10 +3,10 @@ use Rattle.std.specs.List.{AllByRecursion}
 use Rattle.std.proofs.lemmas.Result.{err_from_is_err_and}
 use Rattle.sqlite.specs.Held.{state}
 use Rattle.desk_types.specs.declared.refusal.Refusal.TheVariants as refusals
-use Rattle.desk_saved.specs.Reads.{HasLogTables}
-use Rattle.desk_saved.specs.Tables.{read_entries}
+use Rattle.desk_saved.specs.DeskTables.{HasLogTables}
+use Rattle.desk_naming.specs.Tables.{read_entries}
 use Rattle.desk_saved.proofs.Loading.{are_wide, loads, plain_entries}
-use Rattle.desk_saved.proofs.TableReads.{leaves_none, read_rows, read_refused, read_want}
+use Rattle.desk_naming.proofs.TableReads.{leaves_none, read_rows, read_refused, read_want}
 use Rattle.desk_saved.proofs.load.load_log.Goals as goal
 
 pub returns-in-Err-clause-crash : goal.returns-in-Err-clause-crash

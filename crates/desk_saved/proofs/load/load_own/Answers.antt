@@ -2,11 +2,12 @@ use Rattle.std.proofs.Common.{rules, ◌≡◌, length, sym, subst}
 use Rattle.std.specs.List.{AllByRecursion}
 use Rattle.std.proofs.lemmas.Result.{err_from_is_err_and}
 use Rattle.desk_types.specs.declared.refusal.Refusal.TheVariants as refusals
-use Rattle.desk_saved.specs.Contents.{trees_of}
-use Rattle.desk_saved.specs.DeskTables.{node_table_of}
-use Rattle.desk_saved.specs.Reads.{HasLogTables}
-use Rattle.desk_saved.proofs.Loading.{node_wide, own_found}
-use Rattle.desk_saved.proofs.TableReads.{node_in_log, read_where, read_as, read_want, read_err}
+use Rattle.desk_naming.specs.Contents.{trees_of}
+use Rattle.desk_saved.specs.DeskTables.{node_table_of, HasLogTables}
+use Rattle.desk_naming.proofs.NodeAnswer.{node_wide}
+use Rattle.desk_saved.proofs.Loading.{own_found}
+use Rattle.desk_saved.proofs.TableReads.{node_in_log}
+use Rattle.desk_naming.proofs.TableReads.{read_where, read_as, read_want, read_err}
 use Rattle.desk_saved.proofs.load.load_own.Goals as goal
 
 pub returns-in_err-rows-clause-crash : goal.returns-in_err-rows-clause-crash

@@ -6,12 +6,12 @@ use Rattle.sqlite.specs.State.{HasCleanDisk}
 use Rattle.sqlite.specs.Held.{state}
 use Rattle.desk_log.specs.SavedValue.{SavedValue}
 use Rattle.desk_types.specs.declared.limits.TheConstants.{LAST_VIEW, LOG_ENTRIES}
-use Rattle.desk_saved.specs.Contents.{trees_of}
-use Rattle.desk_saved.specs.Reads.{HasLogTables}
+use Rattle.desk_naming.specs.Contents.{trees_of}
+use Rattle.desk_saved.specs.DeskTables.{HasLogTables}
 use Rattle.desk_types.specs.declared.refusal.Refusal.TheVariants as refusals
 use Rattle.desk_saved.specs.File.{HasLog, HasNoLog, HasOwn, HasNoOwn}
 use Rattle.desk_saved.proofs.LoadStateAnswers.{misfits, fits_together}
-use Rattle.desk_saved.proofs.TableReads.{read_then, read_as, read_want, read_err}
+use Rattle.desk_naming.proofs.TableReads.{read_then, read_as, read_want, read_err}
 use Rattle.desk_saved.proofs.load.load_saved.Goals as goal
 
 pub returns-in_default-clause-found : goal.returns-in_default-clause-found

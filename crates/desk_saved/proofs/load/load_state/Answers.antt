@@ -3,12 +3,13 @@ use Rattle.std.proofs.lemmas.Result.{err_from_is_err_and}
 use Rattle.sqlite.specs.Effect.{Database}
 use Rattle.sqlite.specs.State.{HasCleanDisk}
 use Rattle.sqlite.specs.Held.{state}
-use Rattle.desk_saved.specs.Contents.{trees_of}
+use Rattle.desk_naming.specs.Contents.{trees_of}
 use Rattle.desk_saved.specs.DeskTables.{log_tables}
 use Rattle.desk_saved.specs.File.{HasClients, HasNoLogFile}
 use Rattle.desk_saved.specs.SchemaRefusals.{IsDeskSchema}
 use Rattle.desk_saved.proofs.ClientsLoading.{other_clients}
-use Rattle.desk_saved.proofs.TableReads.{log_in_desk, read_where, read_then, read_as, read_err}
+use Rattle.desk_saved.proofs.TableReads.{log_in_desk}
+use Rattle.desk_naming.proofs.TableReads.{read_where, read_then, read_as, read_err}
 use Rattle.desk_saved.proofs.load.load_state.Goals as goal
 
 pub returns-in_default-clause-found : goal.returns-in_default-clause-found

@@ -2,11 +2,11 @@ use Rattle.std.proofs.Common.{rules, ◌≡◌, ◌∙◌, ◌≤◌, sym, subst
 use Rattle.std.specs.List.{list_any}
 use Rattle.std.proofs.lemmas.Result.{err_from_is_err_and}
 use Rattle.desk_codec.specs.Version.{is_new_entry}
-use Rattle.desk_saved.specs.Contents.{trees_of}
+use Rattle.desk_naming.specs.Contents.{trees_of}
 use Rattle.desk_saved.specs.File.{HasNoLogFile}
-use Rattle.desk_saved.specs.Reads.{HasLogTables}
+use Rattle.desk_saved.specs.DeskTables.{HasLogTables}
 use Rattle.desk_types.specs.declared.limits.TheConstants.{FIRST_LOG_ENTRIES}
-use Rattle.desk_saved.proofs.TableReads.{read_as, read_err}
+use Rattle.desk_naming.proofs.TableReads.{read_as, read_err}
 use Rattle.desk_saved.proofs.Restarts.{same_log}
 use Rattle.desk_saved.proofs.old_file.load_old.Goals as goal
 

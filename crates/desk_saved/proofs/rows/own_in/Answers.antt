@@ -1,7 +1,7 @@
 use Rattle.std.proofs.Common.{rules, ◌≡◌, refl}
 use Rattle.sqlite_value.specs.Order.{column}
 use Rattle.sqlite_value.specs.declared.value.Value.TheVariants.{Text}
-use Rattle.desk_saved.proofs.EightColumns.{eight_are, number_is}
+use Rattle.desk_naming.proofs.EightColumns.{eight_are, number_is}
 use Rattle.desk_saved.proofs.rows.own_in.Goals as goal
 
 pub returns : goal.returns

@@ -4,11 +4,11 @@ use Rattle.sqlite.specs.Held.{state}
 use Rattle.desk_saved.specs.declared.changes.RowChange.TheVariants as changes
 use Rattle.desk_saved.specs.declared.steps.RowStep.{RowStep}
 use Rattle.desk_saved.specs.declared.steps.RowStep.TheVariants as steps
-use Rattle.desk_saved.specs.AfterRefusal.{ShowsAsBefore}
+use Rattle.desk_naming.specs.AfterRefusal.{ShowsAsBefore}
 use Rattle.desk_saved.specs.Causes.{HasNoTransaction}
 use Rattle.desk_saved.specs.Clients.{clients_of, settle_all}
 use Rattle.desk_saved.specs.File.{client_rows}
-use Rattle.desk_saved.proofs.Causes.{one_cause}
+use Rattle.desk_saved.proofs.Refusing.{one_cause}
 use Rattle.desk_saved.proofs.GrownFiles.{may_grow, saves_grown, not_at_all}
 use Rattle.desk_saved.proofs.Opening.{shown_undone}
 use Rattle.desk_saved.proofs.SaveSteps.{own_is}

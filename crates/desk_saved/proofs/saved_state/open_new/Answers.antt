@@ -3,7 +3,7 @@ use Rattle.sqlite.specs.Held.{state}
 use Rattle.desk_saved.specs.declared.changes.RowChange.TheVariants as changes
 use Rattle.desk_saved.specs.declared.steps.RowStep.TheVariants as steps
 use Rattle.desk_saved.specs.DeskTables.{own_rows}
-use Rattle.desk_saved.proofs.Causes.{one_cause}
+use Rattle.desk_saved.proofs.Refusing.{one_cause}
 use Rattle.desk_saved.proofs.Opening.{begun_by, not_begun_by, not_tried, shown_undone}
 use Rattle.desk_saved.proofs.saved_state.open_new.Goals as goal
 

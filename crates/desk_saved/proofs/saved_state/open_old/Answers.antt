@@ -1,12 +1,12 @@
 use Rattle.std.proofs.Common.{rules, ◌≡◌, IsTrue, false, refl, inl, inr}
 use Rattle.sqlite.specs.Held.{state}
-use Rattle.desk_saved.specs.Contents.{schema_of}
+use Rattle.desk_naming.specs.Contents.{schema_of}
 use Rattle.desk_saved.specs.Growth.{HasGrown, HasNotGrown}
 use Rattle.desk_saved.specs.OldFile.{HasRoomForClients}
 use Rattle.desk_saved.specs.Opening.{HasOpened, HasRefused}
 use Rattle.desk_saved.proofs.OldOpening.{old_refused, old_failed, old_unfit, grown_opened, not_grown, ok_so, err_so}
 use Rattle.desk_saved.proofs.Opening.{shows_same}
-use Rattle.desk_saved.proofs.Refusing.{unchanged_shows}
+use Rattle.desk_naming.proofs.Refusing.{unchanged_shows}
 use Rattle.desk_saved.proofs.TableReads.{read_refusal}
 use Rattle.desk_saved.proofs.saved_state.open_old.Goals as goal
 

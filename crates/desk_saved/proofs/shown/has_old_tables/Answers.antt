@@ -1,6 +1,6 @@
 use Rattle.std.proofs.Common.{◌≡◌, codes, Some, sym, ap, ◌∙◌}
 use Rattle.std.specs.Option.{option_copied}
-use Rattle.desk_saved.specs.SchemaRefusals.{table_of}
+use Rattle.desk_naming.specs.TableInSchema.{table_of}
 use Rattle.desk_saved.proofs.OldTables.{old_stand, old_of, old_node_there, old_entry_there}
 use Rattle.desk_saved.proofs.shown.has_old_tables.Goals as goal
 

@@ -1,6 +1,6 @@
 use Rattle.std.proofs.Common.{◌≡◌, codes, Some, sym, ap, ◌∙◌}
 use Rattle.std.specs.Option.{option_copied}
-use Rattle.desk_saved.specs.SchemaRefusals.{table_of}
+use Rattle.desk_naming.specs.TableInSchema.{table_of}
 use Rattle.desk_saved.proofs.DeskTables.{tables_stand, tables_of, node_there, entry_there, client_there}
 use Rattle.desk_saved.proofs.shown.has_tables.Goals as goal
 

@@ -17,7 +17,7 @@ returns c =
             within = omega arith;
             some = c.requires.some;
             moved = passes_on c.args.left f c.requires.place bytes now (omega arith);
-            keeps = λ es k. tt;
+            keeps = λ es k a. absurd a;
             covers = all_covers f.place bytes;
           })
       | else-bytes-left w ↦
@@ -26,7 +26,7 @@ returns c =
             within = omega arith;
             some = c.requires.some;
             moved = passes_end c.args.left f c.requires.place bytes now;
-            keeps = λ es k. tt;
+            keeps = λ es k a. absurd a;
             covers = all_covers f.place bytes;
           })
     ]

@@ -1,7 +1,5 @@
-use Rattle.std.proofs.Common.{ap, subst, ◌∙◌, arith, None}
-use Rattle.desk_frames.specs.declared.frame.Place.TheVariants as places
-use Rattle.desk_frames.specs.Frame.{FrameState, Taken, place_after_length}
-use Rattle.desk_frames.proofs.Keeping.{same_keeps}
+use Rattle.std.proofs.Common.{ap, subst, sym, ◌∙◌, arith, None}
+use Rattle.desk_frames.specs.Frame.{FrameState, IsAwaited, Taken, place_after_length}
 use Rattle.desk_frames.proofs.Steps.{length_moves, length_covers}
 use Rattle.desk_frames.proofs.frame.OpenFrame.take_length.Goals as goal
 
@@ -17,7 +15,7 @@ returns c =
       some = omega arith;
       moved = (length_moves old begins c.self.invariant bytes (omega arith) (λ i. omega (arith, c.type_inv.bytes i)) p
           (c.place_after_length-self-inside.ensures ∙ ap place_after_length c.length_announced.ensures)).0;
-      keeps = same_keeps old places.Length p begins tt;
+      keeps = λ es k a. k (subst IsAwaited (sym begins) tt);
       covers = length_covers old begins c.self.invariant bytes (omega arith)
           (λ i. omega (arith, c.type_inv.bytes i));
     })

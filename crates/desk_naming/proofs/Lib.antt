@@ -1,0 +1,15 @@
+pub mod Common
+pub mod StandingTables
+pub mod NodeAt
+pub mod SlotCheck
+pub mod EightElements
+pub mod EightColumns
+pub mod DomainText
+pub mod NodeColumns
+pub mod Selecting
+pub mod NodeRow
+pub mod NodeAnswer
+pub mod Refusing
+pub mod Causes
+pub mod TableReads
+pub mod NodeTable

@@ -1,4 +1,0 @@
-//! The limit of trees.
-
-/// The number of each tree of a database is below this.
-pub(crate) const TREES: u32 = 1 << 31;
