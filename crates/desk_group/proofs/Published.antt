@@ -30,7 +30,7 @@ use Rattle.desk_group.specs.Agreement.{IsOfWorld, TurnsMakeWorlds, SavedCommitte
 use Rattle.desk_group.specs.Agreement.{PublishedAgree, PublishedBoardsAgree, PublishedIdentifiersStay}
 use Rattle.desk_group.specs.Agreement.{PublishedRepliesAgree, PublishedRepliesStay, PublishedIsRising}
 use Rattle.desk_group.specs.Agreement.{PublishedIdentifiersDiffer, PublishedUnitsOnce, PublishedUnitsAtOpen}
-use Rattle.desk_group.specs.Agreement.{PublishedLatestReplyKept}
+use Rattle.desk_group.specs.Agreement.{PublishedLatestReplyHeld}
 use Rattle.desk_group.proofs.GroupWorlds.{StandsFor, GoesOn, run_goes_on, first_stands}
 
 -- what is published, as a prefix of a log
@@ -167,7 +167,7 @@ units_open domain n acts g i list group l p lower =
     front_of domain n g events i list a p in
     rw (← front) (units_stand_open domain n events i group (length list) lower)
 
-pub rows : PublishedLatestReplyKept
+pub rows : PublishedLatestReplyHeld
 rows domain n acts g i list group l p client = rows_are_latest domain list client
 
 -- a place of a log has an entry

@@ -92,8 +92,8 @@ PublishedUnitsAtOpen = OfPublished (λ domain list. IsLowerDomain domain →
     All (λ p. IsOpenOn (board_of domain list) p.incident) (board_of domain list).committed_to)
 
 -- Such a board keeps each client's latest reply.
-abbrev pub PublishedLatestReplyKept : Type 0
-PublishedLatestReplyKept = OfPublished (λ domain list. (client : ℕ) →
+abbrev pub PublishedLatestReplyHeld : Type 0
+PublishedLatestReplyHeld = OfPublished (λ domain list. (client : ℕ) →
     row_of client (board_of domain list) ≡ row domain client list)
 
 -- There is one log: all that nodes may have published is a prefix of it, and later of it with more entries after it.

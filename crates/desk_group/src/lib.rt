@@ -4,7 +4,7 @@
 ghost use Rattle.desk_group.specs.Agreement.{TurnsMakeWorlds, SavedCommittedStays, OneLog};
 ghost use Rattle.desk_group.specs.Agreement.{PublishedAgree, PublishedBoardsAgree, PublishedIdentifiersDiffer};
 ghost use Rattle.desk_group.specs.Agreement.{PublishedIdentifiersStay, PublishedUnitsOnce, PublishedUnitsAtOpen};
-ghost use Rattle.desk_group.specs.Agreement.{PublishedIsRising, PublishedLatestReplyKept, PublishedRepliesAgree};
+ghost use Rattle.desk_group.specs.Agreement.{PublishedIsRising, PublishedLatestReplyHeld, PublishedRepliesAgree};
 ghost use Rattle.desk_group.specs.Agreement.{PublishedRepliesStay, RowsAreReplies, ReadRepliesAgree};
 ghost use Rattle.desk_group.specs.Serves.{EachItemIsTaken, Serves};
 ghost use Rattle.desk_group.specs.Turns.{HandledIsTurn, RunIsTurns, TurnsAreRun};
@@ -46,7 +46,7 @@ pub fn group()
     // No numbered command is published twice.
     ensures rising { PublishedIsRising }
     // A board keeps each client's latest reply.
-    ensures rows { PublishedLatestReplyKept }
+    ensures rows { PublishedLatestReplyHeld }
     // A number of a client has one place and one reply.
     ensures replies { PublishedRepliesAgree }
     // A reply stands in all that is published up to its place or past it, at any node, then and later.

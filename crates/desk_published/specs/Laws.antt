@@ -1,4 +1,4 @@
--- Laws of what a client is told.
+-- Laws of what is reported to a client.
 use Rattle.std.specs.Prelude.{◌≡◌, ◌≤◌, ℕ, List, true, Some}
 use mathlib.Core.List.{IsPrefix}
 use Rattle.desk_types.specs.declared.command.Entry.{Entry}
@@ -14,7 +14,7 @@ abbrev pub HasRow : List ℕ → List Entry → ℕ → ℕ → Type 0
 HasRow domain list client number =
     (r : Row) × (row_of client (board_of domain list) ≡ Some r) × (IsRising list → number ≤ r.number)
 
--- So it is with each list that begins with what was published when the client was told.
+-- So it is with each list that begins with what was published when the client heard of it.
 abbrev pub ReportedHasRow : Type 0
 ReportedHasRow =
     (domain : List ℕ) (reported list : List Entry) (client number count : ℕ) →

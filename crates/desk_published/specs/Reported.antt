@@ -1,4 +1,4 @@
--- What a client is told.
+-- What is reported to a client.
 use Rattle.std.specs.Prelude.{ℕ, ◌==◌, ◌&&◌, Bool, true, false, List, length, take, nat_le, Option, Some, None}
 use Rattle.std.specs.List.{list_any}
 use Rattle.desk_types.specs.declared.command.Entry.{Entry}

@@ -1,4 +1,4 @@
--- What is kept of an entry whose board is kept.
+-- What is stored of an entry whose board is held.
 use Rattle.std.specs.Prelude.{ℕ, ◌==◌, ◌&&◌, Bool}
 use Rattle.desk_types.specs.declared.command.Entry.{Entry}
 use Rattle.desk_published.specs.declared.published.RequestId.{RequestId}

@@ -1,4 +1,4 @@
-//! One history of entries, which only grows. Its entries are known to the proofs alone: what is kept is its length.
+//! One history of entries, which only grows. Its entries are known to the proofs alone: what is stored is its length.
 
 ghost use Rattle.std.specs.Prelude.{◌≡◌, ◌<◌, ◌^◌, ◌++◌, ◌∷◌, [], length, MatchBool};
 ghost use Rattle.std.specs.Bool.{OnTrue};
@@ -65,7 +65,7 @@ pub struct NewHistory {
     pub ghost length_is: { length ≡ length_word seen.book },
 }
 
-// It is written out, so that a caller does not prove again how each part is dropped.
+// Written out, so that callers need not prove each part's drop.
 impl Drop for NewHistory {
     fn drop(self) {
         let NewHistory { length: _, seen: _ } = self;
@@ -110,7 +110,7 @@ pub struct HistoryEnd<B: BoardName> {
     ghost length_is: { length ≡ length_word B.book },
 }
 
-// It is written out, so that a caller does not prove again how each part is dropped.
+// Written out, so that callers need not prove each part's drop.
 impl<B: BoardName> Drop for HistoryEnd<B> {
     fn drop(self) {
         let HistoryEnd { length: _, name: _ } = self;
@@ -124,7 +124,7 @@ pub struct HistoryPrefix<B: BoardName> {
     name: PhantomData<B>,
 }
 
-// It is written out, so that a caller does not prove again how each part is dropped.
+// Written out, so that callers need not prove each part's drop.
 impl<B: BoardName> Drop for HistoryPrefix<B> {
     fn drop(self) {
         let HistoryPrefix {

@@ -1,4 +1,4 @@
-//! Laws of what a client is told.
+//! Laws of what is reported to a client.
 
 ghost use Rattle.desk_published.specs.Laws.{ReportedHasRow};
 

@@ -1,7 +1,7 @@
 //! The published board: one writer publishes the entries of a log with their board, and readers read that board
 //! without ever waiting. What is published is a prefix of one history of entries, which only grows; a reader's pass and
-//! what a client is told carry how far that history had come, so each read begins with what its reader saw and was told
-//! before.
+//! what is reported to a client carry how far that history had come, so each read begins with what its reader saw and
+//! heard before.
 #![tactic(auto)]
 
 mod board_name;

@@ -54,7 +54,7 @@ struct RequestId {
     number: RequestNumber,
 }
 
-/// A list of entries and its board. A contract sees the list; what is kept of an entry beside its board is whose
+/// A list of entries and its board. A contract sees the list; what is stored of an entry beside its board is whose
 /// request it is.
 pub struct PublishedBoard<B: BoardName> {
     board: Board,
@@ -62,7 +62,7 @@ pub struct PublishedBoard<B: BoardName> {
     history: HistoryPrefix<B>,
 }
 
-// It is written out, so that a caller does not prove again how each part is dropped.
+// Written out, so that callers need not prove each part's drop.
 impl<B: BoardName> Drop for PublishedBoard<B> {
     fn drop(self) {
         let PublishedBoard {

@@ -30,7 +30,7 @@ where
     pub(crate) failed_reads: u64,
 }
 
-// It is written out, so that a caller does not prove again how each part is dropped.
+// Written out, so that callers need not prove each part's drop.
 impl<B: BoardName> Drop for BoardReader<B>
 where
     PrefixRule: Protocol<PublishedBoard<B>, SeatView>,

@@ -26,7 +26,7 @@ pub struct Reported<B: BoardName> {
     ghost stands: { stands published client number word ≡ true },
 }
 
-// It is written out, so that a caller does not prove again how each part is dropped.
+// Written out, so that callers need not prove each part's drop.
 impl<B: BoardName> Drop for Reported<B> {
     fn drop(self) {
         let Reported {

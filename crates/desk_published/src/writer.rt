@@ -62,8 +62,8 @@ fn note_next<B: BoardName>(
     Ok(NextEntry::new(entry, more))
 }
 
-// Makes an entry that was noted part of what the next publish publishes, or keeps it where there is no memory for that.
-fn append_or_keep<B: BoardName>(
+// Makes an entry that was noted part of what the next publish publishes, or holds it where there is no memory for that.
+fn append_or_hold<B: BoardName>(
     inner: &mut Writer<PublishedBoard<B>, NextEntry<B>, SeatView, PrefixRule>,
     refused: &mut Option<NextEntry<B>>,
     next: NextEntry<B>,
@@ -155,7 +155,7 @@ impl<B: BoardName> BoardWriter<B> {
     {
         let BoardWriter { inner, refused, .. } = self;
         if let Some(next) = refused.take() {
-            append_or_keep(inner, refused, next);
+            append_or_hold(inner, refused, next);
         }
     }
 
@@ -177,7 +177,7 @@ impl<B: BoardName> BoardWriter<B> {
         }
         match note_next(end, noted, entry) {
             Ok(next) => {
-                append_or_keep(inner, refused, next);
+                append_or_hold(inner, refused, next);
                 true
             }
             Err(back) => {
@@ -192,6 +192,7 @@ impl<B: BoardName> BoardWriter<B> {
         requires past { base ≤ length self.old.noted }
         requires noted { IsPrefix self.old.noted (followed_by base self.old.noted entries.now) }
         ensures desk { self.new.inner.desk ≡ self.old.inner.desk }
+        ensures past { base ≤ length self.new.noted }
         ensures noted { IsPrefix self.new.noted (followed_by base self.old.noted entries.now) }
     {
         self.retry();
@@ -210,6 +211,7 @@ impl<B: BoardName> BoardWriter<B> {
     fn publish_noted<R: Wait>(self, rt: &R, base: u64, entries: &[Entry]) -> (BoardWriter<B>, bool)
         requires past { base ≤ length self.noted }
         requires noted { IsPrefix self.noted (followed_by base self.noted entries.now) }
+        ensures past { base ≤ length result.0.noted }
         ensures noted { IsPrefix result.0.noted (followed_by base self.noted entries.now) }
         ensures grows { IsPrefix (published self.inner) (published result.0.inner) }
         ensures published { IsPrefix (published result.0.inner) (followed_by base self.noted entries.now) }
@@ -275,6 +277,7 @@ impl<B: BoardName> BoardWriter<B> {
     ) -> (BoardWriter<B>, bool)
         requires past { base ≤ length self.noted }
         requires noted { EqualsPrefix self.noted (followed_by base self.noted entries.now) }
+        ensures past { base ≤ length result.0.noted }
         ensures noted { EqualsPrefix result.0.noted (followed_by base self.noted entries.now) }
         ensures grows { IsPrefix (published self.inner) (published result.0.inner) }
         ensures published { IsPrefix (published result.0.inner) (followed_by base self.noted entries.now) }

@@ -12,14 +12,14 @@ use Rattle.desk_mailbox.specs.declared.item.Item.TheVariants as items
 use Rattle.desk_log.specs.declared.state_store.StateStore.{Ghosts as StoreGhosts}
 use Rattle.desk_threads.specs.declared.handing.Out.{Ghosts}
 use Rattle.desk_threads.specs.OwnedValue.{OwnedValue, DoesItems}
-use Rattle.desk_threads.specs.Runs.{Stand}
+use Rattle.desk_threads.proofs.SavedTurns.{node_turn, node_turn_shown}
 use Rattle.desk_network.specs.Queued.{HasQueued}
 use Rattle.desk_network.specs.Putting.{QueueEnds, PutsIntoQueues}
 use Rattle.desk_world.proofs.Packets.{Contains-none}
 use Rattle.desk_group.specs.Group.{Keepers, Act, Takes, Breaks, Restarts, started, started_group, WasHanded}
 use Rattle.desk_group.specs.Group.{KeeperBecomes, OneTurn, Happens, Runs}
-use Rattle.desk_refinement.specs.Nodes.{WasPut, Nodes, NodeChange, Turns, Ends, OneChanges, EndsIn, ChangesTo, RunTo}
-use Rattle.desk_refinement.specs.Nodes.{AreNewNodes}
+use Rattle.desk_refinement.specs.Nodes.{WasPut, NodeStand, Nodes, NodeChange, Turns, Ends, OneChanges, EndsIn, RunTo}
+use Rattle.desk_refinement.specs.Nodes.{AreNewNodes, ChangesTo}
 use Rattle.desk_refinement.specs.Groups.{AreGroup, NodesAreGroups, TurnsPublish}
 use Rattle.desk_refinement.proofs.Queued.{queued_was_handed}
 
@@ -61,7 +61,7 @@ module _ {O S : Type 0} (g : Ghosts O) (s : StoreGhosts S) (ends : O → QueueEn
       (subst (λ (ps : List (ℕ × Message)). HasQueued (ends old) ps (ends new)) same (puts old new handed gave)) put
 
   follows : (i : ℕ) (old new : Nodes O S) (out : O) (k : Keepers) (owned : OwnedValue) (packets : List (ℕ × Message)) →
-      AreGroup old k → OneChanges ends n i old out new → (new.stands i).owned ≡ owned →
+      AreGroup old k → OneChanges ends n i old out new → (new.stands i).replica.owned ≡ owned →
       ((sent : ℕ × Message) → WasPut (ends (old.stands i).out) (ends out) sent → Contains packets sent) →
       AreGroup new (with_keeper k i owned packets)
   follows i old new out k owned packets are one is put = record {
@@ -72,17 +72,17 @@ module _ {O S : Type 0} (g : Ghosts O) (s : StoreGhosts S) (ends : O → QueueEn
         (one.queued sent c);
   }
     where
-      by_node : (j : ℕ) → (j ≡ i) ⊎ (j ≢ i) → (with_keeper k i owned packets).keepers j ≡ (new.stands j).owned
+      by_node : (j : ℕ) → (j ≡ i) ⊎ (j ≢ i) → (with_keeper k i owned packets).keepers j ≡ (new.stands j).replica.owned
       by_node j (inl e) =
           let test : eqb j i ≡ true = eq-eqb j i e in
-          rw test (subst (λ (l : ℕ). owned ≡ (new.stands l).owned) (sym e) (sym is))
+          rw test (subst (λ (l : ℕ). owned ≡ (new.stands l).replica.owned) (sym e) (sym is))
       by_node j (inr ne) =
           let test : eqb j i ≡ false = ne_eqb j i ne in
-          rw test (are.keepers j ∙ ap (λ (x : Stand O S). x.owned) (sym (one.there j ne)))
+          rw test (are.keepers j ∙ ap (λ (x : NodeStand O S). x.replica.owned) (sym (one.there j ne)))
 
   one_turn : (i : ℕ) (old : Nodes O S) (k : Keepers) (turn : List Item) (packets : List (ℕ × Message))
       (owned : OwnedValue) → AreGroup old k → AllByRecursion (WasHanded old.queued i) turn →
-      DoesItems (old.stands i).owned turn packets owned → OneTurn i k turn packets owned
+      DoesItems (old.stands i).replica.owned turn packets owned → OneTurn i k turn packets owned
   one_turn i old k turn packets owned are brought does = record {
     handed = all_handed old.queued k.handed i turn are.handed brought;
     does = subst (λ (x : OwnedValue). DoesItems x turn packets owned) (sym (are.keepers i)) does;
@@ -108,7 +108,7 @@ module _ {O S : Type 0} (g : Ghosts O) (s : StoreGhosts S) (ends : O → QueueEn
       OneAct k new
   ended i turn count old new out k are brought e one = ⊎_elim before after e.saved
     where
-      before : (e.found ≡ (old.stands i).owned.node.saved) × (e.handed ≡ []) → OneAct k new
+      before : (e.found ≡ (old.stands i).replica.owned.node.saved) × (e.handed ≡ []) → OneAct k new
       before is =
           let owned : OwnedValue = started domain n i (k.keepers i).node.saved in
           let found : e.found ≡ (k.keepers i).node.saved =
@@ -142,14 +142,15 @@ module _ {O S : Type 0} (g : Ghosts O) (s : StoreGhosts S) (ends : O → QueueEn
   changes_act : (old new : Nodes O S) (change : NodeChange) (k : Keepers) → AreGroup old k →
       ChangesTo g s ends most domain n old change new → OneAct k new
   changes_act old new (Turns i turn) k are (brought, took, one) =
-      let owned : OwnedValue = (new.stands i).owned in
+      let owned : OwnedValue = (new.stands i).replica.owned in
       record {
         act = Takes i turn;
         group = with_keeper k i owned took.packets;
         happens = (
           owned,
           took.packets,
-          one_turn i old k turn took.packets owned are brought took.does,
+          one_turn i old k turn took.packets owned are brought
+              (node_turn g s most turn (old.stands i) (new.stands i) took).0,
           becomes n i k owned took.packets one.is_node,
           refl,
         );
@@ -185,4 +186,4 @@ nodes_are_groups g s ends puts most domain n changes more new early late fresh r
 pub turns_publish : {O S : Type 0} (g : Ghosts O) (s : StoreGhosts S) → TurnsPublish g s
 turns_publish g s most i turn old new one are t =
     subst (λ (x : OwnedValue). IsPrefix (new.stands i).published (committed_entries x.node.saved))
-    (sym (are.keepers i)) t.shown
+    (sym (are.keepers i)) (node_turn_shown g s most turn (old.stands i) (new.stands i) t).0

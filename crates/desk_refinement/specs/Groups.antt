@@ -6,12 +6,11 @@ use Rattle.desk_mailbox.specs.declared.item.Item.{Item}
 use Rattle.desk_mailbox.specs.declared.item.Item.TheVariants as items
 use Rattle.desk_log.specs.declared.state_store.StateStore.{Ghosts as StoreGhosts}
 use Rattle.desk_threads.specs.declared.handing.Out.{Ghosts}
-use Rattle.desk_threads.specs.Runs.{TakesTurn}
 use Rattle.desk_peers.specs.Queues.{put_to}
 use Rattle.desk_network.specs.Queued.{HasQueued}
 use Rattle.desk_network.specs.Putting.{QueueEnds, PutsIntoQueues}
 use Rattle.desk_group.specs.Group.{Keepers, Act, Runs, started_group, WasHanded, MayPublish}
-use Rattle.desk_refinement.specs.Nodes.{Nodes, NodeChange, RunTo, AreNewNodes}
+use Rattle.desk_refinement.specs.Nodes.{Nodes, NodeChange, RunTo, AreNewNodes, TakesNodeTurn}
 
 -- What a node's queues put for node i, of packets that its keeper handed out, node i may take in a group from then on.
 abbrev pub QueuedMayBeTaken : Type 0
@@ -21,7 +20,7 @@ QueuedMayBeTaken = (i : ℕ) (old new : QueueEnds) (handed packets : List (ℕ �
 
 -- The group has the nodes' keepers, and what the nodes queued was handed out in it.
 pub record AreGroup {O S : Type 0} (nodes : Nodes O S) (g : Keepers) : Type 0 where
-  pub keepers : (i : ℕ) → g.keepers i ≡ (nodes.stands i).owned
+  pub keepers : (i : ℕ) → g.keepers i ≡ (nodes.stands i).replica.owned
   pub handed : (sent : ℕ × Message) → Contains nodes.queued sent → Contains g.handed sent
 
 -- Whatever happens among nodes with these queues, there are acts of a group that has their keepers; and later it goes
@@ -41,4 +40,4 @@ NodesAreGroups {O} g s = (ends : O → QueueEnds) → PutsIntoQueues g ends → 
 -- What a node has published after a turn is what the node may publish in such a group.
 abbrev pub TurnsPublish : {O S : Type 0} → Ghosts O → StoreGhosts S → Type 0
 TurnsPublish {O} {S} g s = (most i : ℕ) (turn : List Item) (old new : Nodes O S) (one : Keepers) → AreGroup new one →
-    TakesTurn g s most turn (old.stands i) (new.stands i) → MayPublish one i (new.stands i).published
+    TakesNodeTurn g s most turn (old.stands i) (new.stands i) → MayPublish one i (new.stands i).published

@@ -1,6 +1,7 @@
 pub mod StoredAnswers
 pub mod PublishedPrefixes
 pub mod OutcomeAnswers
+pub mod Histories
 pub mod KeeperRuns
 pub mod KeeperTurns
 pub mod EndingItems
@@ -14,5 +15,6 @@ pub mod Items
 pub mod SessionLoops
 pub mod ItemsInOrder
 pub mod ReplicaItems
+pub mod SavedItems
 pub mod ItemAnswers
 pub mod SentWords

@@ -1,19 +1,11 @@
 -- Prefixes, in the three words for them, and what a read leaves.
-use Rattle.std.proofs.Common.{◌≡◌, List, [], ◌∷◌, refl, sym, subst, ◌∙◌, append-nil, Option, Some, None, MatchOption}
+use Rattle.std.proofs.Common.{◌≡◌, List, [], refl, sym, subst, ◌∙◌, append-nil, Option, Some, None, MatchOption}
 use Rattle.std.proofs.Common.{Bool, true, false, MatchBool}
 use mathlib.Core.List.{IsPrefix}
 use Rattle.desk_types.specs.declared.command.Entry.{Entry}
-use Rattle.desk_log.specs.Entries.{IsLogPrefix}
 use Rattle.desk_log.specs.SavedValue.{SavedValue, committed_entries}
 use Rattle.desk_published.specs.Writer.{EqualsPrefix}
 use Rattle.desk_published.proofs.PrefixEquations.{is_front}
-
-pub begins : (xs ys : List Entry) → IsLogPrefix xs ys → IsPrefix xs ys
-begins [] ys h = (ys, refl)
-begins (x ∷ xs) [] h = absurd h
-begins (x ∷ xs) (y ∷ ys) h =
-    let r = begins xs ys h.1 in
-    (r.0, cc (h.0, r.1))
 
 -- a pass begins with the one before, whether the board was entered or not
 pub read_goes_on : {T : Type 0} (o : Option T) (old new : List Entry) (P : T → Type 0) →

@@ -56,8 +56,8 @@ node_replica = record { does = NodeDoes; refuses = NodeRefuses; follows = NodeFo
 node_item : (k new : OwnedValue) (item : Item) (packets : List (ℕ × Message)) (answers : List Answer) →
     MeetsItem node_replica k item packets answers new →
     DoesItems k (item ∷ []) packets new × AnswersItem k item answers new
-node_item k new item packets answers (inl (does, told, same)) =
-    (keeps_one k new item packets does same, inl (packets, does, told))
+node_item k new item packets answers (inl (does, reported, same)) =
+    (keeps_one k new item packets does same, inl (packets, does, reported))
 node_item k new item packets answers (inr (none, silent, refused)) = (
   subst (λ (w : List (ℕ × Message)). DoesItems k (item ∷ []) w new) (sym none) (keeps_refused k new item refused),
   inr (silent, refused),

@@ -1,13 +1,13 @@
 -- Whom a keeper tells what, by the outcome of an item.
-use Rattle.std.proofs.Common.{◌≡◌, List, Bool, true, false, map, ap, subst, ◌∙◌}
+use Rattle.std.proofs.Common.{◌≡◌, ℕ, List, Bool, true, false, map, ap, subst, ◌∙◌}
 use Rattle.std.proofs.Common.{Result, Ok, Err, IfOk, IfErr}
 use Rattle.std.specs.List.{AllZip}
 use Rattle.desk_types.specs.declared.command.Entry.{Entry}
-use Rattle.desk_types.specs.declared.outcome.Outcome.{Outcome}
+use Rattle.desk_types.specs.declared.packet.Message.{Message}
 use Rattle.desk_types.specs.declared.refusal.Refusal.{Refusal}
 use Rattle.desk_types.specs.declared.refusal.Refusal.TheVariants as refusals
 use Rattle.desk_types.specs.Refusal.{is_want_of_memory, IsStoreRefusal}
-use Rattle.desk_threads.specs.Answers.{session_answers}
+use Rattle.desk_threads.specs.declared.answer.Answer.{Answer}
 use Rattle.desk_threads.specs.ItemAnswers.{waiting_on, AreInformed, HearAndAreInformed}
 use Rattle.desk_threads.specs.Waiting.{SessionValue, after_stop, HearsAll}
 use Rattle.desk_threads.specs.Filed.{goes_on_after}
@@ -27,21 +27,23 @@ reported_from list noted going before new goes know going_is goes_is before_is r
     subst (λ l. AreInformed list l new) (before_is ∙ going_is ∙ ap (λ b. waiting_on b noted) goes_is) reported
 
 -- at Ok
-pub reported_done : {A : Type 0} (outcome : Result A Refusal) (outcomes_of : A → List Outcome) (step : A)
-    (answer : Result Bool Refusal) (whole : Bool) (Gives : List Outcome → Type 0) (list : List Entry)
+pub reported_done : {A : Type 0} (outcome : Result A Refusal) (packets_of : A → List (ℕ × Message))
+    (answers_of : A → List Answer) (step : A) (answer : Result Bool Refusal) (whole : Bool)
+    (Does : List (ℕ × Message) → List Answer → Type 0) (list : List Entry)
     (noted going mid before new : List SessionValue) (goes : Bool) → outcome ≡ Ok step → answer ≡ Ok whole →
-    goes ≡ goes_on_after outcome → going ≡ waiting_on goes noted → IfOk outcome (λ s. Gives (outcomes_of s)) →
-    AllZip (HearsAll (session_answers (outcomes_of step))) going mid → before ≡ mid → AreInformed list before new →
-    IfOk answer (λ _. (answers : List Outcome) × Gives answers
-    × HearAndAreInformed list (session_answers answers) noted new)
-reported_done outcome outcomes_of step answer whole Gives list noted going mid before new goes is answer_is goes_is
-    going_is
-    gave heard before_is reported = rw answer_is (
-      outcomes_of step,
-      if_ok outcome step (λ s. Gives (outcomes_of s)) is gave,
+    goes ≡ goes_on_after outcome → going ≡ waiting_on goes noted →
+    IfOk outcome (λ s. Does (packets_of s) (answers_of s)) → AllZip (HearsAll (answers_of step)) going mid →
+    before ≡ mid → AreInformed list before new →
+    IfOk answer (λ _. (packets : List (ℕ × Message)) × (answers : List Answer) × Does packets answers
+    × HearAndAreInformed list answers noted new)
+reported_done outcome packets_of answers_of step answer whole Does list noted going mid before new goes is answer_is
+    goes_is going_is did heard before_is reported = rw answer_is (
+      packets_of step,
+      answers_of step,
+      if_ok outcome step (λ s. Does (packets_of s) (answers_of s)) is did,
       (
         mid,
-        subst (λ l. AllZip (HearsAll (session_answers (outcomes_of step))) l mid)
+        subst (λ l. AllZip (HearsAll (answers_of step)) l mid)
             (going_is ∙ ap (λ b. waiting_on b noted) (goes_on_if outcome (Ok step) goes goes_is is)) heard,
         subst (λ l. AreInformed list l new) before_is reported,
       ),

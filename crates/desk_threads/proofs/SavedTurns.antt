@@ -1,35 +1,31 @@
--- Turns of a node with its store, from what holds of any replica.
-use Rattle.std.proofs.Common.{◌≡◌, ℕ, List, [], ◌∷◌, refl, sym, ◌∙◌, ap, subst, inl, inr}
-use Rattle.std.proofs.Common.{Result, Ok, Err, length, take, zero, suc, ◌≤◌, arith}
+-- What a keeper's clauses say of a node with its store, from what they say of any replica.
+use Rattle.std.proofs.Common.{◌≡◌, ◌≢◌, ◌++◌, ℕ, List, [], ◌∷◌, refl, sym, ◌∙◌, ap, subst, inl, inr, ⊎_elim}
+use Rattle.std.proofs.Common.{MatchBool, length, take, zero, suc, ◌≤◌, arith}
 use Rattle.std.proofs.lemmas.List.{length-take}
+use mathlib.Core.List.{IsPrefix}
 use Rattle.desk_types.specs.declared.command.Entry.{Entry}
+use Rattle.desk_types.specs.declared.owner.Owner.{Owner}
 use Rattle.desk_types.specs.declared.packet.Message.{Message}
-use Rattle.desk_types.specs.declared.refusal.Refusal.{Refusal}
 use Rattle.desk_log.specs.Entries.{IsLogPrefix}
 use Rattle.desk_log.specs.SavedValue.{SavedValue, committed_entries}
 use Rattle.desk_log.specs.declared.state_store.StateStore.{Ghosts as StoreGhosts}
 use Rattle.desk_log.proofs.KnownPrefix.{front_after}
 use Rattle.desk_mailbox.specs.declared.item.Item.{Item}
-use Rattle.desk_published.specs.Writer.{EqualsPrefix}
-use Rattle.desk_published.proofs.PrefixEquations.{front_goes_on}
+use Rattle.desk_mailbox.specs.declared.rule.SentItem.{SentItem}
+use Rattle.desk_node.specs.NodeValue.{IsSameNode}
 use Rattle.desk_threads.specs.declared.answer.Answer.{Answer}
-use Rattle.desk_threads.specs.declared.item_step.ItemStep.{ItemStep}
-use Rattle.desk_threads.specs.declared.replica.Replica.{Ghosts}
+use Rattle.desk_threads.specs.declared.handing.Out.{Ghosts as OutGhosts}
 use Rattle.desk_threads.specs.declared.saved_node.SavedNode.{SavedNode}
 use Rattle.desk_threads.specs.Filed.{IsFiled, IsUnfiled}
-use Rattle.desk_threads.specs.NodeReplica.{NodeFollows}
-use Rattle.desk_threads.specs.OwnedValue.{OwnedValue}
+use Rattle.desk_threads.specs.ItemAnswers.{AnswersSessions}
+use Rattle.desk_threads.specs.OwnedValue.{OwnedValue, DoesItem, DoesItems}
 use Rattle.desk_threads.specs.Replicas.{MeetsItem, MeetsItems}
-use Rattle.desk_threads.specs.SavedNodes.{SavedNodeDoes, SavedNodeFollows, SavedNodeRefuses}
-use Rattle.desk_threads.specs.SavedNodes.{SavesNode, FailsToSaveNode}
-use Rattle.desk_threads.specs.Turns.{DidMore, MetMore, MetAndSaved, EndsInSave}
-use Rattle.desk_threads.proofs.PublishedPrefixes.{begins}
-use Rattle.desk_threads.proofs.ReplicaItems.{node_replica}
-use Rattle.desk_threads.proofs.TurnSteps.{did_of_met}
-
--- what a node with its store is for items
-abbrev pub saved_node_replica : {S : Type 0} → Ghosts (SavedNode S)
-saved_node_replica = record { does = SavedNodeDoes; refuses = SavedNodeRefuses; follows = SavedNodeFollows }
+use Rattle.desk_threads.specs.Runs.{items_in, Ran, Stand, TakesTurn}
+use Rattle.desk_threads.specs.SavedItems.{DoesAndSaves, DoesAndFails, MeetsAndSaves, MeetsAndFails}
+use Rattle.desk_threads.specs.SavedNodes.{saved_node_replica, node_saving}
+use Rattle.desk_threads.specs.Saving.{LogsGoOn, StaysSaved}
+use Rattle.desk_threads.specs.Telling.{AnswersItems}
+use Rattle.desk_threads.proofs.ReplicaItems.{node_replica, node_items}
 
 saved_item : {S : Type 0} (k new : SavedNode S) (item : Item) (packets : List (ℕ × Message)) (answers : List Answer) →
     MeetsItem saved_node_replica k item packets answers new →
@@ -48,81 +44,126 @@ saved_items k new (item ∷ more) packets answers (mid, first, last, early, late
     let r = saved_items mid new more last late rest in
     ((mid.owned, first, last, early, late, e, f, o.0, r.0), r.1 ∙ o.1)
 
--- what was made of the node, which was then saved or not
-pub made_did : {S : Type 0} (k made : SavedNode S) (new : OwnedValue) (steps after : List ItemStep)
-    (items : List Item) → new ≡ made.owned → MetMore saved_node_replica k steps items made after →
-    DidMore k.owned steps items new after × (made.store ≡ k.store)
-made_did k made new steps after items is (packets, answers, e, f, met) =
-    let m = saved_items k made items packets answers met in (
-      subst (λ (o : OwnedValue). DidMore k.owned steps items o after) (sym is)
-          (did_of_met k.owned made.owned steps after items (packets, answers, e, f, m.0)),
-      m.1,
+-- Items of the node with saves between them are its items.
+saves_items : {S : Type 0} (g : StoreGhosts S) (k new : SavedNode S) (items : List Item)
+    (packets : List (ℕ × Message)) (answers : List Answer) →
+    MeetsAndSaves saved_node_replica (node_saving g) k items packets answers new →
+    MeetsItems node_replica k.owned items packets answers new.owned
+saves_items {S} g k new [] packets answers (none, silent, same) =
+    (none, silent, ap (λ (r : SavedNode S). r.owned) same)
+saves_items {S} g k new (item ∷ more) packets answers
+    (made, mid, first, last, early, late, e, f, one, saved, rest) =
+    let o = saved_item k made item first early one in
+    let is : mid.owned ≡ made.owned =
+    ⊎_elim (λ (same : mid ≡ made). ap (λ (r : SavedNode S). r.owned) same) (λ saves. saves.0) saved in (
+      made.owned,
+      first,
+      last,
+      early,
+      late,
+      e,
+      f,
+      o.0,
+      subst (λ (k : OwnedValue). MeetsItems node_replica k more last late new.owned) is
+          (saves_items g mid new more last late rest),
     )
 
--- a node that began a turn so
-abbrev with_store : {S : Type 0} → OwnedValue → S → SavedNode S
-with_store owned store = record { owned = owned; store = store }
-
--- the turn was saved
-pub turn_filed : {S A : Type 0} (g : StoreGhosts S) (owned : OwnedValue) (store : S) (first new : SavedNode S)
-    (steps after : List ItemStep) (items : List Item) (outcome : Result A Refusal) (x : A) →
-    first ≡ record { owned = owned; store = store } → outcome ≡ Ok x →
-    MetAndSaved saved_node_replica (SavesNode g) (FailsToSaveNode g) first steps items outcome new after →
-    DidMore owned steps items new.owned after × IsFiled g store new.store new.owned.node.saved
-turn_filed {S} {A} g owned store first new steps after items outcome x is ok (made, met, follows, saved) =
-    let s : SavesNode g made new =
-    subst (λ (o : Result A Refusal). EndsInSave (SavesNode g) (FailsToSaveNode g) made o new) ok saved in
-    let d = made_did first made new.owned steps after items s.0 met in (
-      subst (λ (k : SavedNode S). DidMore k.owned steps items new.owned after) is d.0,
-      subst (λ (t : S). IsFiled g t new.store new.owned.node.saved)
-          (d.1 ∙ ap (λ (k : SavedNode S). k.store) is) s.1,
+-- A turn of the node: its items were done or refused, and its state was saved.
+pub node_turn : {O S : Type 0} (out : OutGhosts O) (g : StoreGhosts S) (most : ℕ) (turn : List Item)
+    (old new : Stand O (SavedNode S)) (took : TakesTurn out saved_node_replica (node_saving g) most turn old new) →
+    DoesItems old.replica.owned turn took.packets new.replica.owned
+    × AnswersItems old.replica.owned turn took.answers new.replica.owned
+    × IsFiled g old.replica.store new.replica.store new.replica.owned.node.saved
+node_turn {O} {S} out g most turn old new took =
+    let m = saved_items old.replica took.made turn took.packets took.answers took.does in
+    let d = node_items old.replica.owned took.made.owned turn took.packets took.answers m.0 in
+    let same = sym took.saved.0 in (
+      subst (λ (k : OwnedValue). DoesItems old.replica.owned turn took.packets k) same d.0,
+      subst (λ (k : OwnedValue). AnswersItems old.replica.owned turn took.answers k) same d.1,
+      subst (λ (t : S). IsFiled g t new.replica.store new.replica.owned.node.saved) m.1 took.saved.1,
     )
 
--- the turn was not saved
-pub turn_unfiled : {S A : Type 0} (g : StoreGhosts S) (owned : OwnedValue) (store : S) (first new : SavedNode S)
-    (steps after : List ItemStep) (items : List Item) (outcome : Result A Refusal) (r : Refusal) →
-    first ≡ record { owned = owned; store = store } → g.last store ≡ owned.node.saved → outcome ≡ Err r →
-    MetAndSaved saved_node_replica (SavesNode g) (FailsToSaveNode g) first steps items outcome new after →
-    DidMore owned steps items new.owned after
-    × IsUnfiled g store new.store owned.node.saved new.owned.node.saved
-turn_unfiled {S} {A} g owned store first new steps after items outcome r is last err (made, met, follows, saved) =
-    let s : FailsToSaveNode g made new =
-    subst (λ (o : Result A Refusal). EndsInSave (SavesNode g) (FailsToSaveNode g) made o new) err saved in
-    let d = made_did first made new.owned steps after items s.0 met in (
-      subst (λ (k : SavedNode S). DidMore k.owned steps items new.owned after) is d.0,
+-- And what it published is committed at the node.
+pub node_turn_shown : {O S : Type 0} (out : OutGhosts O) (g : StoreGhosts S) (most : ℕ) (turn : List Item)
+    (old new : Stand O (SavedNode S)) → TakesTurn out saved_node_replica (node_saving g) most turn old new →
+    IsPrefix new.published (committed_entries new.replica.owned.node.saved)
+    × MatchBool new.all_published (new.published ≡ committed_entries new.replica.owned.node.saved)
+    (new.published ≢ committed_entries new.replica.owned.node.saved)
+node_turn_shown out g most turn old new took =
+    let cut = committed_entries new.replica.owned.node.saved in
+    let all : took.past ++ cut ≡ cut = ap (λ past. past ++ cut) took.stands in (
+      subst (λ (w : List Entry). IsPrefix new.published w) all took.shown,
+      subst (λ (w : List Entry). MatchBool new.all_published (new.published ≡ w) (new.published ≢ w)) all took.whole,
+    )
+
+-- What a run did with all that it took.
+pub node_ran : {O S : Type 0} (out : OutGhosts O) (g : StoreGhosts S) (taken taken_now : List (SentItem Item))
+    (old new : SavedNode S) (was now : O) →
+    Ran out saved_node_replica (node_saving g) taken old was taken_now new now →
+    (sent : List (SentItem Item)) × (packets : List (ℕ × Message)) × (taken_now ≡ taken ++ sent)
+    × DoesItems old.owned (items_in sent) packets new.owned × out.takes was packets now
+node_ran out g taken taken_now old new was now (sent, packets, answers, e, met, gave) = (
+  sent,
+  packets,
+  e,
+  (node_items old.owned new.owned (items_in sent) packets answers
+      (saves_items g old new (items_in sent) packets answers met)).0,
+  gave,
+)
+
+-- A turn that was not saved: its items were done or refused, and the store is what it promises of that.
+pub node_fails : {S : Type 0} (g : StoreGhosts S) (old new : SavedNode S) (turn : List Item) →
+    MeetsAndFails saved_node_replica (node_saving g) old turn new →
+    ((packets : List (ℕ × Message)) × DoesItems old.owned turn packets new.owned)
+    × IsUnfiled g old.store new.store old.owned.node.saved new.owned.node.saved
+node_fails {S} g old new turn (packets, answers, made, met, was, failed) =
+    let m = saved_items old made turn packets answers met in
+    let d = node_items old.owned made.owned turn packets answers m.0 in (
+      (packets, subst (λ (k : OwnedValue). DoesItems old.owned turn packets k) (sym failed.0) d.0),
       record {
-        last = last;
-        left = subst (λ (k : OwnedValue). g.leaves store k.node.saved new.store) (sym s.0)
-            (subst (λ (t : S). g.leaves t made.owned.node.saved new.store)
-            (d.1 ∙ ap (λ (k : SavedNode S). k.store) is) s.1);
+        last = was.0;
+        left = subst (λ (k : OwnedValue). g.leaves old.store k.node.saved new.store) (sym failed.0)
+            (subst (λ (t : S). g.leaves t made.owned.node.saved new.store) m.1 failed.1);
       },
     )
 
--- the node is as its items made it, whether that was saved or not
-ends_owned : {S A : Type 0} (g : StoreGhosts S) (made new : SavedNode S) (outcome : Result A Refusal) →
-    EndsInSave (SavesNode g) (FailsToSaveNode g) made outcome new → new.owned ≡ made.owned
-ends_owned g made new (Ok x) s = s.0
-ends_owned g made new (Err r) s = s.0
+-- An item that was done and saved, as `Keeper::handle` promises it.
+pub node_did : {S : Type 0} (g : StoreGhosts S) (old new : SavedNode S) (item : Item) (packets : List (ℕ × Message))
+    (answers : List Answer) → DoesAndSaves saved_node_replica (node_saving g) old item packets answers new →
+    DoesItem old.owned item packets new.owned × AnswersSessions old.owned item answers
+    × IsSameNode old.owned.node new.owned.node
+node_did {S} g old new item packets answers (made, does, saved) = (
+  subst (λ (k : OwnedValue). DoesItem old.owned item packets k) (sym saved.0) does.0.0,
+  does.0.1,
+  subst (λ (k : OwnedValue). IsSameNode old.owned.node k.node) (sym saved.0) does.0.2,
+)
 
--- what was committed before the turn stays committed
-pub turn_committed : {S A : Type 0} (g : StoreGhosts S) (owned : OwnedValue) (store : S) (first new : SavedNode S)
-    (steps after : List ItemStep) (items : List Item) (outcome : Result A Refusal) →
-    first ≡ record { owned = owned; store = store } →
-    MetAndSaved saved_node_replica (SavesNode g) (FailsToSaveNode g) first steps items outcome new after →
-    NodeFollows owned new.owned
-turn_committed {S} g owned store first new steps after items outcome is (made, met, follows, saved) =
-    subst (λ (k : SavedNode S). NodeFollows k.owned new.owned) is
-    (subst (λ (k : OwnedValue). NodeFollows first.owned k) (sym (ends_owned g made new outcome saved)) follows.0)
+-- And one whose save failed.
+pub node_made : {S : Type 0} (g : StoreGhosts S) (old new : SavedNode S) (item : Item) (packets : List (ℕ × Message))
+    (answers : List Answer) → DoesAndFails saved_node_replica (node_saving g) old item packets answers new →
+    DoesItem old.owned item packets new.owned
+    × IsUnfiled g old.store new.store old.owned.node.saved new.owned.node.saved
+node_made {S} g old new item packets answers (made, does, was, failed) = (
+  subst (λ (k : OwnedValue). DoesItem old.owned item packets k) (sym failed.0) does.0.0,
+  record {
+    last = was.0;
+    left = subst (λ (k : OwnedValue). g.leaves old.store k.node.saved new.store) (sym failed.0)
+        (subst (λ (t : S). g.leaves t made.owned.node.saved new.store) does.1 failed.1);
+  },
+)
 
--- and what begins the one begins the other
-pub turn_front : {S A : Type 0} (g : StoreGhosts S) (owned : OwnedValue) (store : S) (first new : SavedNode S)
-    (steps after : List ItemStep) (items : List Item) (outcome : Result A Refusal) (front : List Entry) →
-    EqualsPrefix front (committed_entries owned.node.saved) → first ≡ record { owned = owned; store = store } →
-    MetAndSaved saved_node_replica (SavesNode g) (FailsToSaveNode g) first steps items outcome new after →
-    EqualsPrefix front (committed_entries new.owned.node.saved)
-turn_front g owned store first new steps after items outcome front begun is went =
-    front_goes_on front (committed_entries owned.node.saved) (committed_entries new.owned.node.saved) begun
-    (begins _ _ (turn_committed g owned store first new steps after items outcome is went).1)
+-- It is the same node, and its state is the one that its store saved last.
+pub node_on : {S : Type 0} (g : StoreGhosts S) (old new : SavedNode S) → LogsGoOn (node_saving g) old new →
+    IsSameNode old.owned.node new.owned.node
+node_on g old new on = record {
+  domain_is = ap (λ (o : Owner). o.domain) on.owner;
+  id_is = ap (λ (o : Owner). o.id) on.owner;
+  n_is = ap (λ (o : Owner). o.n) on.owner;
+}
+
+pub node_stays : {S : Type 0} (g : StoreGhosts S) (old new : SavedNode S) → StaysSaved (node_saving g) old new →
+    IsFiled g old.store new.store new.owned.node.saved
+node_stays g old new stays = record { running = stays.0.1; last = stays.0.0; keeps = stays.1 }
 
 take_known : (n : ℕ) (xs : List Entry) → take (length (take n xs)) xs ≡ take n xs
 take_known zero xs = refl

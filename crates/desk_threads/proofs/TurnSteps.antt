@@ -7,10 +7,9 @@ use Rattle.desk_types.specs.declared.packet.Message.{Message}
 use Rattle.desk_mailbox.specs.declared.item.Item.{Item}
 use Rattle.desk_mailbox.specs.declared.rule.SentItem.{SentItem}
 use Rattle.desk_threads.specs.declared.item_step.ItemStep.{ItemStep}
-use Rattle.desk_threads.specs.OwnedValue.{OwnedValue}
 use Rattle.desk_threads.specs.Waiting.{SessionValue, HearsAll}
-use Rattle.desk_threads.proofs.ReplicaItems.{meets_one, meets_then, node_items, node_replica}
-use Rattle.desk_threads.specs.Turns.{packets_of_steps, answers_of_steps, DidMore, MetMore, TookMore, NotesMore}
+use Rattle.desk_threads.proofs.ReplicaItems.{meets_one, meets_then}
+use Rattle.desk_threads.specs.Turns.{packets_of_steps, answers_of_steps, MetMore, TookMore, NotesMore}
 use Rattle.desk_threads.specs.declared.handing.Out.{Ghosts as OutGhosts}
 use Rattle.desk_threads.specs.declared.replica.Replica.{Ghosts}
 use Rattle.desk_threads.specs.Runs.{items_in}
@@ -106,12 +105,6 @@ took_then g taken between now k m new steps mid after xs ys (e, a) (f, b) = (
       (met_then g k m new steps mid after (items_in xs) (items_in ys) a b),
 )
 
--- what items made of a node, and of its steps
-pub did_of_met : (k new : OwnedValue) (steps after : List ItemStep) (items : List Item) →
-    MetMore node_replica k steps items new after → DidMore k steps items new after
-did_of_met k new steps after items (packets, answers, e, f, met) =
-    let d = node_items k new items packets answers met in (packets, answers, e, f, d.0, d.1)
-
 pub notes_more_none : (w : List SessionValue) (late : Option Item) → NotesMore [] w late w late
 notes_more_none w late = λ turn old h. subst (λ x. NotesItems x old w late) (sym (append-nil turn)) h
 
@@ -154,6 +147,11 @@ pub if_ok_both : {A E : Type 0} (r : Result A E) (P : Type 0) (Q T : A → Type 
     OnOk r P → IfOk r Q → IfOk r T
 if_ok_both (Ok x) P Q T f h k = f h x k
 if_ok_both (Err e) P Q T f h k = tt
+
+-- and two things that hold where it answered Ok
+pub on_ok_both : {A E : Type 0} (r : Result A E) (P Q T : Type 0) → (P → Q → T) → OnOk r P → OnOk r Q → OnOk r T
+on_ok_both (Ok x) P Q T f h k = f h k
+on_ok_both (Err e) P Q T f h k = tt
 
 pub on_err_map : {A E : Type 0} (r : Result A E) (P Q : Type 0) → (P → Q) → OnErr r P → OnErr r Q
 on_err_map (Ok x) P Q f h = tt

@@ -113,12 +113,12 @@ hears_next xs i x old mid new lt is one more =
     (hears_more (take i xs) x old mid new one more)
 
 -- the answer of an outcome was heard
-pub hears_told : (o r : Option Answer) (answer : Answer) (old new : List SessionValue) →
+pub hears_some : (o r : Option Answer) (answer : Answer) (old new : List SessionValue) →
     (r ≡ o) ⊎ ((r ≡ None) × IfSome o TakesMemory) → r ≡ Some answer → AllZip (Hears answer) old new →
     AllZip (HearsAll (option_to_list o)) old new
-hears_told o r answer old new (inl same) is h =
+hears_some o r answer old new (inl same) is h =
     subst (λ w. AllZip (HearsAll (option_to_list w)) old new) (sym is ∙ same) (hears_one answer old new h)
-hears_told o r answer old new (inr (none, takes)) is h = absurd (let no : ⊥ = cc in no)
+hears_some o r answer old new (inr (none, takes)) is h = absurd (let no : ⊥ = cc in no)
 
 unheard : (o : Option Answer) (s : List SessionValue) → IfSome o TakesMemory → AllZip (HearsAll (option_to_list o)) s s
 unheard None s takes = hears_none s

@@ -1,4 +1,4 @@
--- What an item answers, and what the sessions that wait are told of it.
+-- What an item answers, and what the sessions that wait hear of it.
 use Rattle.std.specs.Prelude.{◌≡◌, ℕ, Bool, if◌then◌else◌, List, [], map}
 use Rattle.std.specs.List.{AllZip}
 use Rattle.desk_types.specs.declared.command.Entry.{Entry}
@@ -34,15 +34,15 @@ abbrev pub AnswersSessions : OwnedValue → Item → List Answer → Type 0
 AnswersSessions old item answers =
     (outcomes : List Outcome) × Answers old item outcomes × (answers ≡ session_answers outcomes)
 
--- the sessions, which wait on where the keeper goes on, and else are to be told that it stops
+-- the sessions, which wait on where the keeper goes on, and else are to hear that it stops
 abbrev pub waiting_on : Bool → List SessionValue → List SessionValue
 waiting_on goes_on list = if goes_on then list else map after_stop list
 
--- The sessions were told what can be told of them, where these entries are published.
+-- The sessions got what can be reported of them, where these entries are published.
 abbrev pub AreInformed : List Entry → List SessionValue → List SessionValue → Type 0
 AreInformed list old new = AllZip (Tells list) old new
 
--- The sessions heard these answers, and were then told what can be told of these published entries.
+-- The sessions heard these answers, and then got what can be reported of these published entries.
 abbrev pub HearAndAreInformed : List Entry → List Answer → List SessionValue → List SessionValue → Type 0
 HearAndAreInformed list answers old new =
     (mid : List SessionValue) × AllZip (HearsAll answers) old mid × AreInformed list mid new

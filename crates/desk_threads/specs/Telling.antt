@@ -1,4 +1,4 @@
--- What the sessions that wait are told of a turn.
+-- What the sessions that wait hear of a turn.
 use Rattle.std.specs.Prelude.{◌≡◌, ◌⊎◌, ◌++◌, ℕ, List, [], ◌∷◌, map, Option, Some, None, option_to_list}
 use Rattle.std.specs.List.{AllZip}
 use Rattle.desk_types.specs.declared.command.Entry.{Entry}
@@ -28,7 +28,7 @@ abbrev pub after_items : List Item → List SessionValue → List SessionValue
 after_items [] sessions = sessions
 after_items (item ∷ more) sessions = after_items more (after_item item sessions)
 
--- a tick or a stop, of which sessions are told after all else of its turn
+-- a tick or a stop, of which sessions hear after all else of its turn
 abbrev pub late_of : Item → Option Item
 late_of (items.Request session entry) = None
 late_of (items.Packet packet) = None
@@ -40,20 +40,20 @@ abbrev pub NotesItems : List Item → List SessionValue → List SessionValue �
 NotesItems turn old new late =
     (early : List Item) × (turn ≡ early ++ option_to_list late) × (new ≡ after_items early old)
 
--- The sessions heard of the late item, where there is one, and were told before it and after it what can be told of
+-- The sessions heard of the late item, where there is one, and got before it and after it what can be reported of
 -- these published entries.
 abbrev pub TellsRoundLate : List Entry → Option Item → List SessionValue → List SessionValue → Type 0
 TellsRoundLate list late heard new =
     (reported : List SessionValue) × AllZip (Tells list) heard reported
     × AllZip (Tells list) (after_items (option_to_list late) reported) new
 
--- The sessions of a turn that was saved: they heard of its items, then these answers, and were told what can be told of
+-- The sessions of a turn that was saved: they heard of its items, then these answers, and got what can be reported of
 -- these published entries; then so of the late item.
 abbrev pub TellsOfTurn : List Entry → List Item → List Answer → List SessionValue → List SessionValue → Type 0
 TellsOfTurn list turn answers old new =
     (noted : List SessionValue) × (late : Option Item) × (heard : List SessionValue)
     × NotesItems turn old noted late × AllZip (HearsAll answers) noted heard × TellsRoundLate list late heard new
 
--- The sessions of a turn that was not saved: no answer was heard, all that waited were refused, and that was told.
+-- The sessions of a turn that was not saved: no answer was heard, all that waited were refused, and that was reported.
 abbrev pub TellsOfStop : List Entry → List Item → List SessionValue → List SessionValue → Type 0
 TellsOfStop list turn old new = AllZip (Tells list) (map after_stop (after_items turn old)) new

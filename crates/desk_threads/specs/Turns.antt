@@ -1,4 +1,4 @@
--- What the items of a turn make of a keeper's node, in memory.
+-- What the items of a turn make of a keeper's replica, in memory.
 use Rattle.std.specs.Prelude.{◌≡◌, ℕ, Bool, false, List, [], ◌∷◌, ◌++◌, Option, Result, MatchResult}
 use Rattle.desk_types.specs.declared.refusal.Refusal.{Refusal}
 use Rattle.desk_types.specs.declared.packet.Message.{Message}
@@ -7,12 +7,12 @@ use Rattle.desk_mailbox.specs.declared.rule.SentItem.{SentItem}
 use Rattle.desk_threads.specs.declared.answer.Answer.{Answer}
 use Rattle.desk_threads.specs.declared.item_step.ItemStep.{ItemStep}
 use Rattle.desk_threads.specs.declared.replica.Replica.{Ghosts}
-use Rattle.desk_threads.specs.OwnedValue.{OwnedValue, DoesItems}
 use Rattle.desk_threads.specs.Replicas.{MeetsItems}
+use Rattle.desk_threads.specs.Saving.{Saving}
 use Rattle.desk_threads.specs.Waiting.{SessionValue}
 use Rattle.desk_threads.specs.EndingItems.{NoneEnds, OnlyLastEnds}
 use Rattle.desk_threads.specs.Runs.{items_in}
-use Rattle.desk_threads.specs.Telling.{AnswersItems, NotesItems}
+use Rattle.desk_threads.specs.Telling.{NotesItems}
 
 -- the packets of steps, in order
 abbrev pub packets_of_steps : List ItemStep → List (ℕ × Message)
@@ -24,14 +24,6 @@ abbrev pub answers_of_steps : List ItemStep → List Answer
 answers_of_steps [] = []
 answers_of_steps (s ∷ more) = s.answers ++ answers_of_steps more
 
--- The items were done or refused, in order, and the steps that they made stand after those before.
-abbrev pub DidMore : OwnedValue → List ItemStep → List Item → OwnedValue → List ItemStep → Type 0
-DidMore owned steps list owned_now steps_now =
-    (packets : List (ℕ × Message)) × (answers : List Answer)
-    × (packets_of_steps steps_now ≡ packets_of_steps steps ++ packets)
-    × (answers_of_steps steps_now ≡ answers_of_steps steps ++ answers)
-    × DoesItems owned list packets owned_now × AnswersItems owned list answers owned_now
-
 -- The items were met, in order, and the steps that they made stand after those before.
 abbrev pub MetMore : {R : Type 0} → Ghosts R → R → List ItemStep → List Item → R → List ItemStep →
     Type 0
@@ -42,15 +34,14 @@ MetMore g owned steps list owned_now steps_now =
     × MeetsItems g owned list packets answers owned_now
 
 -- What items made of a replica was saved; or its save failed.
-abbrev pub EndsInSave : {R A : Type 0} → (R → R → Type 0) → (R → R → Type 0) → R → Result A Refusal → R → Type 0
-EndsInSave saves fails made outcome new = MatchResult outcome (λ saved. saves made new) (λ r. fails made new)
+abbrev pub EndsInSave : {R A : Type 0} → Saving R → R → Result A Refusal → R → Type 0
+EndsInSave s made outcome new = MatchResult outcome (λ saved. s.saves made new) (λ r. s.fails made new)
 
 -- The items were met, in order, and what they made was saved, or its save failed.
-abbrev pub MetAndSaved : {R A : Type 0} → Ghosts R → (R → R → Type 0) → (R → R → Type 0) → R → List ItemStep →
-    List Item → Result A Refusal → R → List ItemStep → Type 0
-MetAndSaved {R} g saves fails old steps list outcome new steps_now =
-    (made : R) × MetMore g old steps list made steps_now × g.follows old made
-    × EndsInSave saves fails made outcome new
+abbrev pub MetAndSaved : {R A : Type 0} → Ghosts R → Saving R → R → List ItemStep → List Item → Result A Refusal → R →
+    List ItemStep → Type 0
+MetAndSaved {R} g s old steps list outcome new steps_now =
+    (made : R) × MetMore g old steps list made steps_now × g.follows old made × EndsInSave s made outcome new
 
 -- So it is with items that were taken.
 abbrev pub TookMore : {R : Type 0} → Ghosts R → List (SentItem Item) → R → List ItemStep → List (SentItem Item) →

@@ -54,7 +54,7 @@ is_waiting (awaits.Publish place) = true
 is_waiting (awaits.Refusal refusal) = false
 is_waiting awaits.Nothing = false
 
--- A session whose request is open is to be told this refusal.
+-- A session whose request is open is to get this refusal.
 abbrev pub given_up : Refusal → SessionValue → SessionValue
 given_up refusal s = if is_waiting s.awaits then awaiting (awaits.Refusal refusal) s else s
 
@@ -120,11 +120,11 @@ Hears answer old new = (new ≡ heard answer old) ⊎ (TakesMemory answer × (ne
 abbrev pub HearsAll : List Answer → SessionValue → SessionValue → Type 0
 HearsAll answers old new = FoldsTo (λ s answer t. Hears answer s t) old answers new
 
--- what is told of a request, where these entries are published
+-- what is reported of a request, where these entries are published
 abbrev pub said : List Entry → ℕ → ℕ → ReportedWord → ReportedValue
 said list client number word = record { published = list; client = client; number = number; word = word }
 
--- what can be told of a request: that it is published, only where it stands at its place
+-- what can be reported of a request: that it is published, only where it stands at its place
 abbrev pub word_on : List Entry → ℕ → ℕ → Awaited → Option ReportedValue
 word_on list client number (awaits.Publish place) =
     if is_request_at list client number place then Some (said list client number (words.Published (length list)))
@@ -133,12 +133,12 @@ word_on list client number (awaits.Refusal refusal) = Some (said list client num
 word_on list client number awaits.Commit = None
 word_on list client number awaits.Nothing = None
 
--- what can be told of the request that was made last
+-- what can be reported of the request that was made last
 abbrev pub word_asked : List Entry → Option (ℕ × ℕ) → Awaited → Option ReportedValue
 word_asked list None waits = None
 word_asked list (Some request) waits = word_on list request.0 request.1 waits
 
--- what a session can be told now: first the word for which there was no room
+-- what can be reported to a session now: first the word for which there was no room
 abbrev pub word_to_tell : List Entry → SessionValue → Option ReportedValue
 word_to_tell list s = option_or s.unsent (word_asked list s.asked s.awaits)
 
@@ -150,7 +150,7 @@ after_word s = record { awaits = awaits.Nothing; unsent = None; asked = s.asked;
 abbrev pub with_unsent : ReportedValue → SessionValue → SessionValue
 with_unsent reported s = record { awaits = s.awaits; unsent = Some reported; asked = s.asked; ticks = s.ticks }
 
--- what a send to its channel makes of the session: the word is kept where the channel had no room for it, and not where
+-- what a send to its channel makes of the session: the word is held where the channel had no room for it, and not where
 -- it went out or its receiver was gone
 abbrev pub after_send : {T U : Type 0} → Result U (TrySendError T) → (T → ReportedValue) → SessionValue → SessionValue
 after_send (Ok sent) value s = s
@@ -158,7 +158,7 @@ after_send (Err (sends.Disconnected reported)) value s = s
 after_send (Err (sends.Full reported)) value s = with_unsent (value reported) s
 after_send (Err (sends.OutOfMemory reported)) value s = with_unsent (value reported) s
 
--- The session was told what it can be told now, or that is left for the next time. Nothing else changes.
+-- The session got what can be reported to it now, or that is left for the next time. Nothing else changes.
 abbrev pub Tells : List Entry → SessionValue → SessionValue → Type 0
 Tells list old new =
     MatchOption (word_to_tell list old) (new ≡ old)

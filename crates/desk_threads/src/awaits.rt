@@ -14,7 +14,7 @@ pub(crate) enum Awaited {
     Commit,
     /// That its request, which was committed at this place, is published.
     Publish(u64),
-    /// To be told this.
+    /// That it gets this refusal.
     Refusal(Refusal),
 }
 

@@ -10,7 +10,8 @@ ghost use Rattle.desk_published.specs.Reads.{HasFailedOnce};
 ghost use Rattle.desk_published.specs.Writer.{published};
 
 use crate::keeper::Keeper;
-use crate::owned_node::OwnedNode;
+use crate::saved_node::SavedNode;
+use crate::saved_replica::SavedReplica;
 use crossbeam_utils::rule::Protocol;
 use desk_log::StateStore;
 use desk_mailbox::{GatheredMailbox, Item, Sender};
@@ -22,30 +23,27 @@ use left_right::Absorb;
 use std::sync::Wait;
 
 /// A keeper that does no more items, and what it found left in its mailbox. It is not `Drop`: end it by `end`.
-pub struct Gathered<B: BoardName, S: StateStore>
+pub struct Gathered<B: BoardName, R: SavedReplica>
 where
     PublishedBoard<B>: Absorb<NextEntry<B>, State = [Entry; 0]>,
     PrefixRule: Protocol<PublishedBoard<B>, SeatView>,
 {
     pub(crate) mailbox: GatheredMailbox<Item>,
-    pub(crate) owned: OwnedNode,
-    pub(crate) store: S,
+    pub(crate) replica: R,
     pub(crate) writer: BoardWriter<B>,
 }
 
 /// Ends the items of a keeper. What it took is what it did; nothing of its mailbox is taken yet.
-pub fn gather<B: BoardName, S: StateStore>(keeper: Keeper<B, S>) -> Gathered<B, S>
+pub fn gather<B: BoardName, R: SavedReplica>(keeper: Keeper<B, R>) -> Gathered<B, R>
     ensures taker { result.mailbox.taker ≡ keeper.taker }
     ensures taken { taken_at_end result.mailbox ≡ taken_by keeper.taker }
     ensures left { result.mailbox.left.items ≡ [] }
-    ensures owned { result.owned ≡ keeper.owned }
-    ensures store { result.store ≡ keeper.store }
+    ensures replica { result.replica ≡ keeper.replica }
     ensures writer { result.writer ≡ keeper.writer }
 {
     let Keeper {
         taker,
-        owned,
-        store,
+        replica,
         writer,
         waiting,
         stopped: _,
@@ -55,36 +53,36 @@ pub fn gather<B: BoardName, S: StateStore>(keeper: Keeper<B, S>) -> Gathered<B, 
     drop(waiting);
     Gathered {
         mailbox: GatheredMailbox::new(alloc, taker),
-        owned,
-        store,
+        replica,
         writer,
     }
 }
 
-impl<B: BoardName, S: StateStore> Gathered<B, S> {
+impl<B: BoardName, S: StateStore> Gathered<B, SavedNode<S>> {
     /// How many items were refused for want of memory.
     pub fn refused(&self) -> u64
-        ensures { result ≡ self.now.owned.refused }
+        ensures { result ≡ self.now.replica.owned.refused }
     {
-        self.owned.refused()
+        self.replica.owned.refused()
     }
+}
 
+impl<B: BoardName, R: SavedReplica> Gathered<B, R> {
     /// Takes what is left in the mailbox. After Ok all that this sender put was done or counted as refused, or is
     /// left, each once and in order; also where memory was refused, when the rest is still in the mailbox, nothing
     /// else was taken of it. It waits where a sender is in the middle of a put.
-    pub fn sender<R: Wait>(
+    pub fn sender<W: Wait>(
         self,
-        rt: &R,
+        rt: &W,
         sender: Sender<Item>,
-    ) -> (Gathered<B, S>, Sender<Item>, Result<(), WantOfMemory>)
+    ) -> (Gathered<B, R>, Sender<Item>, Result<(), WantOfMemory>)
         requires { SendsTo self.mailbox.taker sender }
         ensures taker { IsSameTaker self.mailbox.taker result.0.mailbox.taker }
         ensures sender { IsSameSender sender result.1 }
         ensures put { put_by result.1 ≡ put_by sender }
         ensures taken { taken_at_end result.0.mailbox ≡ taken_at_end self.mailbox }
         ensures left { (more : _) × (result.0.mailbox.left.items ≡ self.mailbox.left.items ++ more) }
-        ensures owned { result.0.owned ≡ self.owned }
-        ensures store { result.0.store ≡ self.store }
+        ensures replica { result.0.replica ≡ self.replica }
         ensures writer { result.0.writer ≡ self.writer }
         ensures gathered { OnOk result.2
             (items_of sender.number (taken_at_end self.mailbox ++ result.0.mailbox.left.items) ≡ put_by sender) }
@@ -93,15 +91,13 @@ impl<B: BoardName, S: StateStore> Gathered<B, S> {
     {
         let Gathered {
             mailbox,
-            owned,
-            store,
+            replica,
             writer,
         } = self;
         let (mailbox, sender, outcome) = mailbox.sender(rt, sender);
         let gathered = Gathered {
             mailbox,
-            owned,
-            store,
+            replica,
             writer,
         };
         match outcome {
@@ -112,10 +108,9 @@ impl<B: BoardName, S: StateStore> Gathered<B, S> {
 
     /// Whether all that the reader has seen or learned is a prefix of what is published. False only where that is more
     /// than is published, or where the read gave no answer.
-    pub fn reader(self, reader: BoardReader<B>) -> (Gathered<B, S>, BoardReader<B>, bool)
+    pub fn reader(self, reader: BoardReader<B>) -> (Gathered<B, R>, BoardReader<B>, bool)
         ensures mailbox { result.0.mailbox ≡ self.mailbox }
-        ensures owned { result.0.owned ≡ self.owned }
-        ensures store { result.0.store ≡ self.store }
+        ensures replica { result.0.replica ≡ self.replica }
         ensures writer { result.0.writer ≡ self.writer }
         ensures pass { IsPrefix reader.pass result.1.pass }
         ensures gathered { OnTrue result.2
@@ -128,19 +123,17 @@ impl<B: BoardName, S: StateStore> Gathered<B, S> {
         (self, reader, covered)
     }
 
-    /// Ends the board, and gives back the node and the store. It waits for readers that are in the board.
-    pub fn end<R: Wait>(self, rt: &R) -> (OwnedNode, S)
-        ensures owned { result.0 ≡ self.owned }
-        ensures store { result.1 ≡ self.store }
+    /// Ends the board, and gives back the replica. It waits for readers that are in the board.
+    pub fn end<W: Wait>(self, rt: &W) -> R
+        ensures { result ≡ self.replica }
     {
         let Gathered {
             mailbox,
-            owned,
-            store,
+            replica,
             writer,
         } = self;
         drop(mailbox);
         writer.end(rt);
-        (owned, store)
+        replica
     }
 }

@@ -3,8 +3,8 @@
 ghost use Rattle.std.specs.Prelude.{◌≡◌, IfOk};
 
 use crate::keeper::Keeper;
+use crate::saved_replica::SavedReplica;
 use crossbeam_utils::rule::Protocol;
-use desk_log::StateStore;
 use desk_published::{BoardName, NextEntry, PrefixRule, PublishedBoard, SeatView};
 use desk_types::{Entry, WantOfMemory};
 use left_right::Absorb;
@@ -14,30 +14,29 @@ use std::sync::Wait;
 /// Holds a keeper, and ends it where the guard is dropped; so a keeper can be moved into a thread. Its drop waits for
 /// readers that are in the board. The keeper stands in a block of memory of its own, so that a guard moves as a few
 /// words.
-pub struct KeeperGuard<B: BoardName, S: StateStore + Drop, R: Wait + Drop>
+pub struct KeeperGuard<B: BoardName, R: SavedReplica + Drop, W: Wait + Drop>
 where
     PublishedBoard<B>: Absorb<NextEntry<B>, State = [Entry; 0]>,
     PrefixRule: Protocol<PublishedBoard<B>, SeatView>,
 {
-    pub(crate) keeper: Box<Keeper<B, S>>,
-    rt: R,
+    pub(crate) keeper: Box<Keeper<B, R>>,
+    rt: W,
 }
 
 // Ends a keeper, and lets go what it gives back.
-fn end_keeper<B: BoardName, S: StateStore + Drop, R: Wait>(rt: &R, keeper: Keeper<B, S>) {
-    let (taker, owned, store) = keeper.end(rt);
+fn end_keeper<B: BoardName, R: SavedReplica + Drop, W: Wait>(rt: &W, keeper: Keeper<B, R>) {
+    let (taker, replica) = keeper.end(rt);
     drop(taker);
-    drop(owned);
-    drop(store);
+    drop(replica);
 }
 
-impl<B: BoardName, S: StateStore + Drop, R: Wait + Drop> KeeperGuard<B, S, R> {
+impl<B: BoardName, R: SavedReplica + Drop, W: Wait + Drop> KeeperGuard<B, R, W> {
     /// Holds a keeper, with what its end takes to wait. Where there is no memory for its block, the keeper is ended.
     pub fn new(
         alloc: Global,
-        keeper: Keeper<B, S>,
-        rt: R,
-    ) -> Result<KeeperGuard<B, S, R>, WantOfMemory>
+        keeper: Keeper<B, R>,
+        rt: W,
+    ) -> Result<KeeperGuard<B, R, W>, WantOfMemory>
         ensures { IfOk result (λ guard. guard.keeper.value ≡ keeper) }
     {
         match Box::new(alloc, keeper) {
@@ -50,7 +49,7 @@ impl<B: BoardName, S: StateStore + Drop, R: Wait + Drop> KeeperGuard<B, S, R> {
     }
 
     /// The keeper, which has not ended.
-    pub fn into_keeper(self) -> Keeper<B, S>
+    pub fn into_keeper(self) -> Keeper<B, R>
         ensures { result ≡ self.keeper.value }
     {
         let KeeperGuard { keeper, rt: _rt } = self;
@@ -58,9 +57,10 @@ impl<B: BoardName, S: StateStore + Drop, R: Wait + Drop> KeeperGuard<B, S, R> {
     }
 }
 
-impl<B: BoardName, S: StateStore + Drop, R: Wait + Drop> Drop for KeeperGuard<B, S, R> {
+impl<B: BoardName, R: SavedReplica + Drop, W: Wait + Drop> Drop for KeeperGuard<B, R, W> {
     fn drop(self) {
         let KeeperGuard { keeper, rt } = self;
+        // Who drops the guard ends the keeper, and those who wait hear of it.
         end_keeper(&rt, Box::into_inner(keeper));
     }
 }

@@ -1,34 +1,31 @@
-//! One item: its step, its save, its publish, its packets, and what its session is told, in this order.
+//! One item: its step, its save, its publish, its packets, and what its session gets, in this order.
 
 ghost use Rattle.std.specs.Prelude.{◌≡◌, ◌≢◌, ◌⊎◌, ◌∷◌, [], List, Err, true, false, IfOk, IfErr, OnErr, MatchBool};
 ghost use mathlib.Core.List.{IsPrefix};
 ghost use Rattle.desk_types.specs.declared.refusal.Refusal.TheVariants as refusals;
-ghost use Rattle.desk_log.specs.SavedValue.{committed_entries};
-ghost use Rattle.desk_node.specs.NodeValue.{IsSameNode};
-ghost use Rattle.desk_threads.specs.OwnedValue.{with_one_refused, DoesItem};
-ghost use Rattle.desk_threads.specs.Answers.{session_answers};
-ghost use Rattle.desk_threads.specs.ItemAnswers.{Answers, HearAndAreInformed, AreInformed, waiting_on};
+ghost use Rattle.desk_threads.specs.ItemAnswers.{HearAndAreInformed, AreInformed, waiting_on};
 ghost use Rattle.desk_threads.specs.Waiting.{after_item};
 ghost use Rattle.desk_published.specs.Writer.{published};
 ghost use Rattle.desk_types.specs.Refusal.{IsStoreRefusal};
 ghost use Rattle.desk_types.specs.Refusal.{HasStored};
-ghost use Rattle.desk_threads.specs.Filed.{IsFiled, IsUnfiled, goes_on_after};
+ghost use Rattle.desk_threads.specs.Filed.{goes_on_after};
+ghost use Rattle.desk_threads.specs.SavedItems.{DoesAndSaves, DoesAndFails};
+ghost use Rattle.desk_threads.specs.Saving.{LogsGoOn, StaysSaved, replica_history};
 ghost use Rattle.desk_threads.specs.Telling.{TellsOfStop};
 
 use crate::act::act_and_save;
 use crate::handing::{Out, hand_all};
-use crate::item_step::StepAnswers;
+use crate::item_step::ItemStep;
 use crate::keeper::Keeper;
+use crate::saved_replica::SavedReplica;
 use crate::waiting::WaitingSessions;
-use desk_log::StateStore;
 use desk_mailbox::Item;
-use desk_node::Step;
 use desk_published::BoardName;
 use desk_types::Refusal;
 use std::sync::Wait;
 
 // Whether the keeper goes on: it stops where the store failed.
-fn goes_on_after(outcome: &Result<Step, Refusal>) -> bool
+fn goes_on_after(outcome: &Result<ItemStep, Refusal>) -> bool
     ensures { result ≡ goes_on_after outcome.now }
 {
     match outcome {
@@ -37,7 +34,7 @@ fn goes_on_after(outcome: &Result<Step, Refusal>) -> bool
     }
 }
 
-// Who waits waits on where the keeper goes on, and else is to be told that it stops.
+// Who waits waits on where the keeper goes on, and else is to hear that it stops.
 fn stop_unless<B: BoardName>(waiting: &mut WaitingSessions<B>, goes_on: bool)
     ensures { waiting.new ≡ waiting_on goes_on waiting.old }
 {
@@ -46,26 +43,28 @@ fn stop_unless<B: BoardName>(waiting: &mut WaitingSessions<B>, goes_on: bool)
     }
 }
 
-impl<B: BoardName, S: StateStore> Keeper<B, S> {
+impl<B: BoardName, R: SavedReplica> Keeper<B, R> {
     // Does one item, where the store has not failed.
-    fn serve<R: Wait, O: Out>(
+    fn serve<W: Wait, O: Out>(
         self,
-        rt: &R,
+        rt: &W,
         item: Item,
         out: &mut O,
-    ) -> (Keeper<B, S>, Result<bool, Refusal>)
+    ) -> (Keeper<B, R>, Result<bool, Refusal>)
         requires { self.stopped ≡ false }
         ensures taker { result.0.taker ≡ self.taker }
-        ensures did { IfOk result.1 (λ whole. (packets : List _) × DoesItem self.owned item packets result.0.owned
+        ensures did { IfOk result.1 (λ whole. (packets : List _) × (answers : List _)
+            × DoesAndSaves R.Replica R.SavedReplica.saving self.replica item packets answers result.0.replica
             × O.Out.takes out.old packets out.new) }
-        // Who waits hears what the node answered, and is told what can be told of what is published then.
-        ensures reported { IfOk result.1 (λ whole. (answers : List _) × Answers self.owned item answers
-            × HearAndAreInformed (published result.0.writer.inner) (session_answers answers)
+        // Who waits hears what was answered, and is informed of what is published then.
+        ensures reported { IfOk result.1 (λ whole. (packets : List _) × (answers : List _)
+            × DoesAndSaves R.Replica R.SavedReplica.saving self.replica item packets answers result.0.replica
+            × HearAndAreInformed (published result.0.writer.inner) answers
             (after_item item self.waiting) result.0.waiting) }
-        // At 40 the node answered nothing, and they wait on.
+        // At `WantOfMemory` nothing was answered, and they wait on.
         ensures reported_unanswered { IfErr result.1 (λ r. r ≡ refusals.WantOfMemory →
             AreInformed (published result.0.writer.inner) (after_item item self.waiting) result.0.waiting) }
-        // At 41 and 34 all that wait are refused by 34.
+        // At `StoreFault` and `NodeStopped` all that wait are refused by `NodeStopped`.
         ensures reported_stopped { IfErr result.1 (λ r. IsStoreRefusal r →
             TellsOfStop (published result.0.writer.inner) (item ∷ []) self.waiting result.0.waiting) }
         ensures unpublished { IfErr result.1 (λ r. IsStoreRefusal r →
@@ -73,29 +72,28 @@ impl<B: BoardName, S: StateStore> Keeper<B, S> {
         ensures stops { IfErr result.1 (λ r. IsStoreRefusal r → result.0.stopped ≡ true) }
         ensures first { IfErr result.1 (λ r. (r ≡ refusals.WantOfMemory) ⊎ (r ≡ refusals.StoreFault)) }
         ensures refused { IfErr result.1 (λ r. r ≡ refusals.WantOfMemory →
-            result.0.owned ≡ with_one_refused self.owned) }
+            R.Replica.refuses self.replica result.0.replica) }
         ensures fault { IfErr result.1 (λ r. (r ≡ refusals.WantOfMemory) ⊎ IsStoreRefusal r) }
         ensures silent { OnErr result.1 (out.new ≡ out.old) }
-        ensures same { IsSameNode self.owned.node result.0.owned.node }
+        ensures same { LogsGoOn R.SavedReplica.saving self.replica result.0.replica }
         ensures running { HasStored result.1 → result.0.stopped ≡ false }
-        ensures filed { HasStored result.1 → IsFiled S.StateStore self.store result.0.store result.0.owned.node.saved }
-        // At 41 the node is what the item made of it, and the save of that failed.
-        ensures made { IfErr result.1 (λ r. r ≡ refusals.StoreFault →
-            (packets : List _) × DoesItem self.owned item packets result.0.owned) }
-        ensures left { IfErr result.1 (λ r. r ≡ refusals.StoreFault → IsUnfiled S.StateStore self.store
-            result.0.store self.owned.node.saved result.0.owned.node.saved) }
+        ensures saved { HasStored result.1 → StaysSaved R.SavedReplica.saving self.replica result.0.replica }
+        // At `StoreFault` the item was done, and the save of what it made failed.
+        ensures made { IfErr result.1 (λ r. r ≡ refusals.StoreFault → (packets : List _) × (answers : List _)
+            × DoesAndFails R.Replica R.SavedReplica.saving self.replica item packets answers result.0.replica) }
         ensures shown { IsPrefix (published result.0.writer.inner)
-            (committed_entries result.0.owned.node.saved) }
+            (replica_history R.SavedReplica.saving result.0.replica result.0.writer.noted) }
         ensures grows { IsPrefix (published self.writer.inner)
             (published result.0.writer.inner) }
         ensures whole { IfOk result.1 (λ whole. MatchBool whole
-            (published result.0.writer.inner ≡ committed_entries result.0.owned.node.saved)
-            (published result.0.writer.inner ≢ committed_entries result.0.owned.node.saved)) }
+            (published result.0.writer.inner
+            ≡ replica_history R.SavedReplica.saving result.0.replica result.0.writer.noted)
+            (published result.0.writer.inner
+            ≢ replica_history R.SavedReplica.saving result.0.replica result.0.writer.noted)) }
     {
         let Keeper {
             taker,
-            mut owned,
-            mut store,
+            mut replica,
             writer,
             mut waiting,
             stopped: _,
@@ -103,14 +101,18 @@ impl<B: BoardName, S: StateStore> Keeper<B, S> {
             alloc,
         } = self;
         waiting.note(&item);
-        let outcome = act_and_save(alloc, &mut owned, &mut store, item);
+        let outcome = act_and_save(alloc, &mut replica, item);
         let goes_on = goes_on_after(&outcome);
         stop_unless(&mut waiting, goes_on);
-        let (writer, whole) = writer.publish(rt, owned.node().saved(), goes_on);
+        let (writer, whole) = writer.publish_after(
+            rt,
+            replica.past_len(),
+            replica.committed(),
+            goes_on,
+        );
         let answer = match outcome {
-            Ok(Step { packets, answers }) => {
+            Ok(ItemStep { packets, answers }) => {
                 hand_all(out, packets);
-                let answers = StepAnswers::of_node(answers);
                 waiting.hear(&answers);
                 Ok(whole)
             }
@@ -119,8 +121,7 @@ impl<B: BoardName, S: StateStore> Keeper<B, S> {
         waiting.tell(rt, &writer);
         let keeper = Keeper {
             taker,
-            owned,
-            store,
+            replica,
             writer,
             waiting,
             stopped: !goes_on,
@@ -131,10 +132,9 @@ impl<B: BoardName, S: StateStore> Keeper<B, S> {
     }
 
     // Tells those who wait, and who puts this item, that the keeper stops.
-    pub(crate) fn refuse<R: Wait>(self, rt: &R, item: &Item) -> Keeper<B, S>
+    pub(crate) fn refuse<W: Wait>(self, rt: &W, item: &Item) -> Keeper<B, R>
         ensures taker { result.taker ≡ self.taker }
-        ensures owned { result.owned ≡ self.owned }
-        ensures store { result.store ≡ self.store }
+        ensures replica { result.replica ≡ self.replica }
         ensures stopped { result.stopped ≡ self.stopped }
         ensures writer { result.writer ≡ self.writer }
         ensures all_published { result.all_published ≡ self.all_published }
@@ -143,8 +143,7 @@ impl<B: BoardName, S: StateStore> Keeper<B, S> {
     {
         let Keeper {
             taker,
-            owned,
-            store,
+            replica,
             writer,
             mut waiting,
             stopped,
@@ -156,8 +155,7 @@ impl<B: BoardName, S: StateStore> Keeper<B, S> {
         waiting.tell(rt, &writer);
         Keeper {
             taker,
-            owned,
-            store,
+            replica,
             writer,
             waiting,
             stopped,
@@ -166,57 +164,59 @@ impl<B: BoardName, S: StateStore> Keeper<B, S> {
         }
     }
 
-    /// Does one item: the step of the node, its save, one publish; then its packets go out, and then those get their
-    /// answers who wait for what is published or refused. True exactly where all that the node has committed is
-    /// published. Where memory is refused (40) the item is counted, nothing goes out, and those who wait wait on. Where
-    /// the store failed (41) nothing more is published and nothing goes out, and all who wait are refused by 34; so is
-    /// each later item, at which the node and the store stay as they are. It waits for readers that are in the board.
-    pub fn handle<R: Wait, O: Out>(
+    /// Does one item: its step, its save, one publish; then its packets go out, and then those get their answers who
+    /// wait for what is published or refused. True exactly where all that its replica has committed is published. Where
+    /// memory is refused (`WantOfMemory`) the item is counted, nothing goes out, and those who wait wait on. Where the
+    /// store failed (`StoreFault`) nothing more is published and nothing goes out, and all who wait are refused by
+    /// `NodeStopped`; so is each later item, at which the replica stays as it is. It waits for readers in the board.
+    pub fn handle<W: Wait, O: Out>(
         self,
-        rt: &R,
+        rt: &W,
         item: Item,
         out: &mut O,
-    ) -> (Keeper<B, S>, Result<bool, Refusal>)
+    ) -> (Keeper<B, R>, Result<bool, Refusal>)
         ensures taker { result.0.taker ≡ self.taker }
-        ensures did { IfOk result.1 (λ whole. (packets : List _) × DoesItem self.owned item packets result.0.owned
+        ensures did { IfOk result.1 (λ whole. (packets : List _) × (answers : List _)
+            × DoesAndSaves R.Replica R.SavedReplica.saving self.replica item packets answers result.0.replica
             × O.Out.takes out.old packets out.new) }
-        // Who waits hears what the node answered, and is told what can be told of what is published then.
-        ensures reported { IfOk result.1 (λ whole. (answers : List _) × Answers self.owned item answers
-            × HearAndAreInformed (published result.0.writer.inner) (session_answers answers)
+        // Who waits hears what was answered, and is informed of what is published then.
+        ensures reported { IfOk result.1 (λ whole. (packets : List _) × (answers : List _)
+            × DoesAndSaves R.Replica R.SavedReplica.saving self.replica item packets answers result.0.replica
+            × HearAndAreInformed (published result.0.writer.inner) answers
             (after_item item self.waiting) result.0.waiting) }
-        // At 40 the node answered nothing, and they wait on.
+        // At `WantOfMemory` nothing was answered, and they wait on.
         ensures reported_unanswered { IfErr result.1 (λ r. r ≡ refusals.WantOfMemory →
             AreInformed (published result.0.writer.inner) (after_item item self.waiting) result.0.waiting) }
-        // At 41 and 34 all that wait are refused by 34.
+        // At `StoreFault` and `NodeStopped` all that wait are refused by `NodeStopped`.
         ensures reported_stopped { IfErr result.1 (λ r. IsStoreRefusal r →
             TellsOfStop (published result.0.writer.inner) (item ∷ []) self.waiting result.0.waiting) }
         ensures unpublished { IfErr result.1 (λ r. IsStoreRefusal r →
             published result.0.writer.inner ≡ published self.writer.inner) }
         ensures stops { IfErr result.1 (λ r. IsStoreRefusal r → result.0.stopped ≡ true) }
-        // The first fault is 41; once the store has failed each item is refused by 34, and nothing changes.
+        // The first fault is `StoreFault`; then each item is refused by `NodeStopped`, and the replica stays.
         ensures first { self.stopped ≡ false →
             IfErr result.1 (λ r. (r ≡ refusals.WantOfMemory) ⊎ (r ≡ refusals.StoreFault)) }
         ensures after { self.stopped ≡ true → (result.1 ≡ Err refusals.NodeStopped)
-            × (result.0.owned ≡ self.owned) × (result.0.store ≡ self.store) }
+            × (result.0.replica ≡ self.replica) }
         ensures refused { IfErr result.1 (λ r. r ≡ refusals.WantOfMemory →
-            result.0.owned ≡ with_one_refused self.owned) }
+            R.Replica.refuses self.replica result.0.replica) }
         ensures fault { IfErr result.1 (λ r. (r ≡ refusals.WantOfMemory) ⊎ IsStoreRefusal r) }
         ensures silent { OnErr result.1 (out.new ≡ out.old) }
-        ensures same { IsSameNode self.owned.node result.0.owned.node }
+        ensures same { LogsGoOn R.SavedReplica.saving self.replica result.0.replica }
         ensures running { HasStored result.1 → (self.stopped ≡ false) × (result.0.stopped ≡ false) }
-        ensures filed { HasStored result.1 → IsFiled S.StateStore self.store result.0.store result.0.owned.node.saved }
-        // At 41 the node is what the item made of it, and the save of that failed.
-        ensures made { IfErr result.1 (λ r. r ≡ refusals.StoreFault →
-            (packets : List _) × DoesItem self.owned item packets result.0.owned) }
-        ensures left { IfErr result.1 (λ r. r ≡ refusals.StoreFault → IsUnfiled S.StateStore self.store
-            result.0.store self.owned.node.saved result.0.owned.node.saved) }
+        ensures saved { HasStored result.1 → StaysSaved R.SavedReplica.saving self.replica result.0.replica }
+        // At `StoreFault` the item was done, and the save of what it made failed.
+        ensures made { IfErr result.1 (λ r. r ≡ refusals.StoreFault → (packets : List _) × (answers : List _)
+            × DoesAndFails R.Replica R.SavedReplica.saving self.replica item packets answers result.0.replica) }
         ensures shown { IsPrefix (published result.0.writer.inner)
-            (committed_entries result.0.owned.node.saved) }
+            (replica_history R.SavedReplica.saving result.0.replica result.0.writer.noted) }
         ensures grows { IsPrefix (published self.writer.inner)
             (published result.0.writer.inner) }
         ensures whole { IfOk result.1 (λ whole. MatchBool whole
-            (published result.0.writer.inner ≡ committed_entries result.0.owned.node.saved)
-            (published result.0.writer.inner ≢ committed_entries result.0.owned.node.saved)) }
+            (published result.0.writer.inner
+            ≡ replica_history R.SavedReplica.saving result.0.replica result.0.writer.noted)
+            (published result.0.writer.inner
+            ≢ replica_history R.SavedReplica.saving result.0.replica result.0.writer.noted)) }
     {
         if self.stopped {
             let keeper = self.refuse(rt, &item);

@@ -13,7 +13,7 @@ pub struct StepAnswers {
     pub(crate) outcomes: Vec<Outcome>,
 }
 
-// It is written out, so that a caller does not prove again how each part is dropped.
+// Written out, so that callers need not prove each part's drop.
 impl Drop for StepAnswers {
     fn drop(self) {
         let StepAnswers { outcomes: _ } = self;

@@ -12,6 +12,7 @@ ghost use Rattle.desk_node.specs.NodeValue.{node_from};
 
 use crate::keeper::Keeper;
 use crate::owned_node::OwnedNode;
+use crate::saved_node::SavedNode;
 use crate::waiting::WaitingSessions;
 use crossbeam_channel::{Receiver, Sender as WordSender, bounded};
 use crossbeam_utils::rule::Protocol;
@@ -52,7 +53,7 @@ where
     pub reader: BoardReader<B>,
 }
 
-// The ends of one session, which is told what its number waits for.
+// The ends of one session, which gets what its number waits for.
 fn open_session<B: BoardName>(
     alloc: Global,
     writer: &BoardWriter<B>,
@@ -180,13 +181,20 @@ pub fn open_keeper<B: BoardName, S: StateStore + Drop, R: Wait>(
     history: NewHistory,
     node: Node,
     store: S,
-) -> Result<(Keeper<B, S>, Vec<Sender<Item>>, Vec<SessionEnds<B>>), WantOfMemory>
+) -> Result<
+    (
+        Keeper<B, SavedNode<S>>,
+        Vec<Sender<Item>>,
+        Vec<SessionEnds<B>>,
+    ),
+    WantOfMemory,
+>
     requires book { history.seen.book ≡ B.book }
     requires node { node.domain ≡ B.domain }
     requires running { S.stopped store ≡ false }
     requires last { S.last store ≡ node.saved }
-    ensures owned { IfOk result (λ ends. ends.0.owned ≡ record { node = node; ticks = 0; refused = 0 }) }
-    ensures store { IfOk result (λ ends. ends.0.store ≡ store) }
+    ensures owned { IfOk result (λ ends. ends.0.replica.owned ≡ record { node = node; ticks = 0; refused = 0 }) }
+    ensures store { IfOk result (λ ends. ends.0.replica.store ≡ store) }
     ensures running { IfOk result (λ ends. ends.0.stopped ≡ false) }
     ensures taken { IfOk result (λ ends. taken_by ends.0.taker ≡ []) }
     ensures left { IfOk result (λ ends. no_sender_left ends.0.taker ≡ false) }
@@ -218,8 +226,7 @@ pub fn open_keeper<B: BoardName, S: StateStore + Drop, R: Wait>(
     } = front;
     let keeper = Keeper {
         taker,
-        owned,
-        store,
+        replica: SavedNode { owned, store },
         writer,
         waiting,
         stopped: false,
@@ -249,15 +256,22 @@ pub fn open_saved<B: BoardName, S: StateStore + Drop, R: Wait>(
     history: NewHistory,
     owner: Owner,
     store: S,
-) -> Result<(Keeper<B, S>, Vec<Sender<Item>>, Vec<SessionEnds<B>>), WantOfMemory>
+) -> Result<
+    (
+        Keeper<B, SavedNode<S>>,
+        Vec<Sender<Item>>,
+        Vec<SessionEnds<B>>,
+    ),
+    WantOfMemory,
+>
     requires book { history.seen.book ≡ B.book }
     requires domain { owner.domain ≡ B.domain }
     requires group { IsGroup owner.n }
     requires id { owner.id < owner.n }
     requires running { S.stopped store ≡ false }
-    ensures owned { IfOk result (λ ends. ends.0.owned
+    ensures owned { IfOk result (λ ends. ends.0.replica.owned
         ≡ record { node = node_from owner (S.last store); ticks = 0; refused = 0 }) }
-    ensures store { IfOk result (λ ends. ends.0.store ≡ store) }
+    ensures store { IfOk result (λ ends. ends.0.replica.store ≡ store) }
     ensures running { IfOk result (λ ends. ends.0.stopped ≡ false) }
     ensures taken { IfOk result (λ ends. taken_by ends.0.taker ≡ []) }
     ensures left { IfOk result (λ ends. no_sender_left ends.0.taker ≡ false) }

@@ -27,7 +27,7 @@ pub struct OwnedNode {
     refused: u64,
 }
 
-// It is written out, so that a caller does not prove again how each part is dropped.
+// Written out, so that callers need not prove each part's drop.
 impl Drop for OwnedNode {
     fn drop(self) {
         let OwnedNode {

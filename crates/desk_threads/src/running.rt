@@ -6,27 +6,26 @@ ghost use Rattle.desk_mailbox.specs.Ends.{taken_by, no_sender_left, IsSameTaker}
 ghost use Rattle.desk_types.specs.Refusal.{IsStoreRefusal};
 ghost use Rattle.desk_types.specs.declared.refusal.Refusal.TheVariants as refusals;
 ghost use Rattle.desk_published.specs.Writer.{published};
-ghost use Rattle.desk_threads.specs.Filed.{IsFiled};
 ghost use Rattle.desk_threads.specs.Runs.{Ran, RanToLast, stand, RanInTurns, RanToEnd, TakesLast, RanToTurn};
 ghost use Rattle.desk_threads.specs.Runs.{HasRunOut};
+ghost use Rattle.desk_threads.specs.Saving.{StaysSaved};
 
 use crate::handing::Out;
 use crate::keeper::Keeper;
-use desk_log::StateStore;
+use crate::saved_replica::SavedReplica;
 use desk_mailbox::{Item, SentItem};
 use desk_published::BoardName;
 use desk_types::Refusal;
 use std::sync::Wait;
 
-impl<B: BoardName, S: StateStore> Keeper<B, S> {
+impl<B: BoardName, R: SavedReplica> Keeper<B, R> {
     // Waits for an item. `None` where no sender is left.
-    fn take<R: Wait>(self, rt: &R) -> (Keeper<B, S>, Option<SentItem<Item>>)
+    fn take<W: Wait>(self, rt: &W) -> (Keeper<B, R>, Option<SentItem<Item>>)
         ensures same { IsSameTaker self.taker result.0.taker }
         ensures took { MatchOption result.1 (taken_by result.0.taker ≡ taken_by self.taker)
             (λ sent. taken_by result.0.taker ≡ taken_by self.taker ++ sent ∷ []) }
         ensures left { no_sender_left result.0.taker ≡ not (is_some result.1) }
-        ensures owned { result.0.owned ≡ self.owned }
-        ensures store { result.0.store ≡ self.store }
+        ensures replica { result.0.replica ≡ self.replica }
         ensures stopped { result.0.stopped ≡ self.stopped }
         ensures waiting { result.0.waiting ≡ self.waiting }
         ensures writer { result.0.writer ≡ self.writer }
@@ -34,8 +33,7 @@ impl<B: BoardName, S: StateStore> Keeper<B, S> {
     {
         let Keeper {
             taker,
-            owned,
-            store,
+            replica,
             writer,
             waiting,
             stopped,
@@ -45,8 +43,7 @@ impl<B: BoardName, S: StateStore> Keeper<B, S> {
         let (taker, sent) = taker.take(rt);
         let keeper = Keeper {
             taker,
-            owned,
-            store,
+            replica,
             writer,
             waiting,
             stopped,
@@ -58,33 +55,33 @@ impl<B: BoardName, S: StateStore> Keeper<B, S> {
 
     // Takes an item, and does it with those that are there after it, so many in all at most. False after `Stop`, and
     // where no sender is left.
-    fn turn<R: Wait, O: Out>(
+    fn turn<W: Wait, O: Out>(
         self,
-        rt: &R,
+        rt: &W,
         most: usize,
         out: &mut O,
-    ) -> (Keeper<B, S>, Result<bool, Refusal>)
+    ) -> (Keeper<B, R>, Result<bool, Refusal>)
         requires positive { 0 < most }
         ensures same { IsSameTaker self.taker result.0.taker }
-        ensures went { IfOk result.1 (λ more. more ≡ true → RanInTurns O.Out S.StateStore most
-            (taken_by self.taker) (stand self.owned self.waiting self.store (published self.writer.inner)
+        ensures went { IfOk result.1 (λ more. more ≡ true → RanInTurns O.Out R.Replica R.SavedReplica.saving most
+            (taken_by self.taker) (stand self.replica self.waiting (published self.writer.inner)
             self.all_published out.old) (taken_by result.0.taker)
-            (stand result.0.owned result.0.waiting result.0.store (published result.0.writer.inner)
+            (stand result.0.replica result.0.waiting (published result.0.writer.inner)
             result.0.all_published out.new)) }
-        ensures turns { IfOk result.1 (λ more. more ≡ false → RanToEnd O.Out S.StateStore most
-            (taken_by self.taker) (stand self.owned self.waiting self.store (published self.writer.inner)
+        ensures turns { IfOk result.1 (λ more. more ≡ false → RanToEnd O.Out R.Replica R.SavedReplica.saving most
+            (taken_by self.taker) (stand self.replica self.waiting (published self.writer.inner)
             self.all_published out.old) (taken_by result.0.taker)
-            (stand result.0.owned result.0.waiting result.0.store (published result.0.writer.inner)
+            (stand result.0.replica result.0.waiting (published result.0.writer.inner)
             result.0.all_published out.new) (no_sender_left result.0.taker)) }
         ensures ends { IfOk result.1 (λ more. more ≡ false →
             HasRunOut (taken_by self.taker) (taken_by result.0.taker) (no_sender_left result.0.taker)) }
-        ensures failed { IfErr result.1 (λ r. TakesLast S.StateStore most r (taken_by self.taker)
-            (stand self.owned self.waiting self.store (published self.writer.inner)
+        ensures failed { IfErr result.1 (λ r. TakesLast R.Replica R.SavedReplica.saving most r (taken_by self.taker)
+            (stand self.replica self.waiting (published self.writer.inner)
             self.all_published out.old) (taken_by result.0.taker)
-            (stand result.0.owned result.0.waiting result.0.store (published result.0.writer.inner)
+            (stand result.0.replica result.0.waiting (published result.0.writer.inner)
             result.0.all_published out.new)) }
-        ensures filed { self.stopped ≡ false → OnOk result.1 ((result.0.stopped ≡ false)
-            × IsFiled S.StateStore self.store result.0.store result.0.owned.node.saved) }
+        ensures saved { self.stopped ≡ false → OnOk result.1 ((result.0.stopped ≡ false)
+            × StaysSaved R.SavedReplica.saving self.replica result.0.replica) }
         ensures fault { IfErr result.1 IsStoreRefusal }
         ensures first { self.stopped ≡ false → IfErr result.1 (λ r. r ≡ refusals.StoreFault) }
         ensures after { self.stopped ≡ true → IfErr result.1 (λ r. r ≡ refusals.NodeStopped) }
@@ -113,36 +110,36 @@ impl<B: BoardName, S: StateStore> Keeper<B, S> {
     /// Takes and does items until `Stop`, or until no sender is left; it waits while the mailbox is empty. The items
     /// that are there when it takes one, `most` in all and no more, are a turn: their steps are done in order, in
     /// memory; then one save, one publish, and the packets of each step, in order. A tick, a stop and a packet that may
-    /// carry a log end their turn. An item that is refused for want of memory is counted, and ends nothing. Err is 41,
-    /// where the save of the last turn failed, or 34 where the store had failed before; then nothing of the last turn
-    /// went out or was published, and no session heard an answer of it.
-    pub fn run_turns<R: Wait, O: Out>(
+    /// carry a log end their turn. An item that is refused for want of memory is counted, and ends nothing. Err is
+    /// `StoreFault`, where the save of the last turn failed, or `NodeStopped` where the store had failed before; then
+    /// nothing of the last turn went out or was published, and no session heard an answer of it.
+    pub fn run_turns<W: Wait, O: Out>(
         self,
-        rt: &R,
+        rt: &W,
         most: usize,
         out: &mut O,
-    ) -> (Keeper<B, S>, Result<(), Refusal>)
+    ) -> (Keeper<B, R>, Result<(), Refusal>)
         requires positive { 0 < most }
         ensures same { IsSameTaker self.taker result.0.taker }
-        ensures did { OnOk result.1 (Ran O.Out (taken_by self.taker) self.owned out.old
-            (taken_by result.0.taker) result.0.owned out.new) }
-        ensures turns { OnOk result.1 (RanToEnd O.Out S.StateStore most (taken_by self.taker)
-            (stand self.owned self.waiting self.store (published self.writer.inner)
+        ensures did { OnOk result.1 (Ran O.Out R.Replica R.SavedReplica.saving (taken_by self.taker)
+            self.replica out.old (taken_by result.0.taker) result.0.replica out.new) }
+        ensures turns { OnOk result.1 (RanToEnd O.Out R.Replica R.SavedReplica.saving most (taken_by self.taker)
+            (stand self.replica self.waiting (published self.writer.inner)
             self.all_published out.old) (taken_by result.0.taker)
-            (stand result.0.owned result.0.waiting result.0.store (published result.0.writer.inner)
+            (stand result.0.replica result.0.waiting (published result.0.writer.inner)
             result.0.all_published out.new) (no_sender_left result.0.taker)) }
         // It goes on past each item that is refused for want of memory.
         ensures ends { OnOk result.1 (HasRunOut (taken_by self.taker) (taken_by result.0.taker)
             (no_sender_left result.0.taker)) }
-        ensures failed { IfErr result.1 (λ r. RanToTurn O.Out S.StateStore most r (taken_by self.taker)
-            (stand self.owned self.waiting self.store (published self.writer.inner)
+        ensures failed { IfErr result.1 (λ r. RanToTurn O.Out R.Replica R.SavedReplica.saving most r
+            (taken_by self.taker) (stand self.replica self.waiting (published self.writer.inner)
             self.all_published out.old) (taken_by result.0.taker)
-            (stand result.0.owned result.0.waiting result.0.store (published result.0.writer.inner)
+            (stand result.0.replica result.0.waiting (published result.0.writer.inner)
             result.0.all_published out.new)) }
-        ensures filed { self.stopped ≡ false → OnOk result.1 ((result.0.stopped ≡ false)
-            × IsFiled S.StateStore self.store result.0.store result.0.owned.node.saved) }
+        ensures saved { self.stopped ≡ false → OnOk result.1 ((result.0.stopped ≡ false)
+            × StaysSaved R.SavedReplica.saving self.replica result.0.replica) }
         ensures fault { IfErr result.1 IsStoreRefusal }
-        // The first fault is 41, and from then on it is 34.
+        // The first fault is `StoreFault`, and from then on it is `NodeStopped`.
         ensures first { self.stopped ≡ false → IfErr result.1 (λ r. r ≡ refusals.StoreFault) }
         ensures after { self.stopped ≡ true → IfErr result.1 (λ r. r ≡ refusals.NodeStopped) }
         ensures stops { OnErr result.1 (result.0.stopped ≡ true) }
@@ -161,35 +158,35 @@ impl<B: BoardName, S: StateStore> Keeper<B, S> {
     }
 
     /// Takes and does items until `Stop`, or until no sender is left, each with a save of its own; it waits while the
-    /// mailbox is empty. An item that is refused for want of memory is counted, and ends nothing. Err is 41, or 34
-    /// where the store had failed before; then nothing of the last item went out or was published.
-    pub fn run<R: Wait, O: Out>(self, rt: &R, out: &mut O) -> (Keeper<B, S>, Result<(), Refusal>)
+    /// mailbox is empty. An item that is refused for want of memory is counted, and ends nothing. Err is `StoreFault`,
+    /// or `NodeStopped` where the store had failed before; then nothing of the last item went out or was published.
+    pub fn run<W: Wait, O: Out>(self, rt: &W, out: &mut O) -> (Keeper<B, R>, Result<(), Refusal>)
         ensures same { IsSameTaker self.taker result.0.taker }
-        ensures did { OnOk result.1 (Ran O.Out (taken_by self.taker) self.owned out.old
-            (taken_by result.0.taker) result.0.owned out.new) }
+        ensures did { OnOk result.1 (Ran O.Out R.Replica R.SavedReplica.saving (taken_by self.taker)
+            self.replica out.old (taken_by result.0.taker) result.0.replica out.new) }
         // It goes on past each item that is refused for want of memory.
         ensures ends { OnOk result.1 (HasRunOut (taken_by self.taker) (taken_by result.0.taker)
             (no_sender_left result.0.taker)) }
-        ensures failed { IfErr result.1 (λ r. RanToLast O.Out S.StateStore r (taken_by self.taker)
-            (stand self.owned self.waiting self.store (published self.writer.inner)
+        ensures failed { IfErr result.1 (λ r. RanToLast O.Out R.Replica R.SavedReplica.saving r (taken_by self.taker)
+            (stand self.replica self.waiting (published self.writer.inner)
             self.all_published out.old) (taken_by result.0.taker)
-            (stand result.0.owned result.0.waiting result.0.store (published result.0.writer.inner)
+            (stand result.0.replica result.0.waiting (published result.0.writer.inner)
             result.0.all_published out.new)) }
-        // Its items are turns of one, so the sessions that wait are told what those of turns are.
-        ensures turns { OnOk result.1 (RanToEnd O.Out S.StateStore 1 (taken_by self.taker)
-            (stand self.owned self.waiting self.store (published self.writer.inner)
+        // Its items are turns of one, so the sessions that wait get what those of turns get.
+        ensures turns { OnOk result.1 (RanToEnd O.Out R.Replica R.SavedReplica.saving 1 (taken_by self.taker)
+            (stand self.replica self.waiting (published self.writer.inner)
             self.all_published out.old) (taken_by result.0.taker)
-            (stand result.0.owned result.0.waiting result.0.store (published result.0.writer.inner)
+            (stand result.0.replica result.0.waiting (published result.0.writer.inner)
             result.0.all_published out.new) (no_sender_left result.0.taker)) }
-        ensures last { IfErr result.1 (λ r. RanToTurn O.Out S.StateStore 1 r (taken_by self.taker)
-            (stand self.owned self.waiting self.store (published self.writer.inner)
+        ensures last { IfErr result.1 (λ r. RanToTurn O.Out R.Replica R.SavedReplica.saving 1 r (taken_by self.taker)
+            (stand self.replica self.waiting (published self.writer.inner)
             self.all_published out.old) (taken_by result.0.taker)
-            (stand result.0.owned result.0.waiting result.0.store (published result.0.writer.inner)
+            (stand result.0.replica result.0.waiting (published result.0.writer.inner)
             result.0.all_published out.new)) }
-        ensures filed { self.stopped ≡ false → OnOk result.1 ((result.0.stopped ≡ false)
-            × IsFiled S.StateStore self.store result.0.store result.0.owned.node.saved) }
+        ensures saved { self.stopped ≡ false → OnOk result.1 ((result.0.stopped ≡ false)
+            × StaysSaved R.SavedReplica.saving self.replica result.0.replica) }
         ensures fault { IfErr result.1 IsStoreRefusal }
-        // The first fault is 41, and from then on it is 34.
+        // The first fault is `StoreFault`, and from then on it is `NodeStopped`.
         ensures first { self.stopped ≡ false → IfErr result.1 (λ r. r ≡ refusals.StoreFault) }
         ensures after { self.stopped ≡ true → IfErr result.1 (λ r. r ≡ refusals.NodeStopped) }
         ensures stops { OnErr result.1 (result.0.stopped ≡ true) }

@@ -1,5 +1,7 @@
 //! A node with the store of its state.
 
+ghost use Rattle.std.specs.Prelude.{◌≡◌};
+
 use crate::item_step::ItemStep;
 use crate::owned_node::OwnedNode;
 use crate::replica::Replica;
@@ -40,22 +42,11 @@ impl<S: StateStore> Replica for SavedNode<S> {
 }
 
 impl<S: StateStore> SavedReplica for SavedNode<S> {
-    ghost use Rattle.std.specs.Prelude.{◌≡◌, []};
-    ghost use Rattle.desk_log.specs.SavedValue.{committed_entries};
-    ghost use Rattle.desk_threads.specs.SavedNodes.{IsSavedNode, SavesNode, FailsToSaveNode};
-    ghost use Rattle.desk_threads.specs.SavedNodes.{no_past_counts, node_saved_last, node_saved_same};
+    ghost use Rattle.desk_threads.specs.SavedNodes.{node_saving, no_past_counts, node_saved_last, node_saved_same};
+    ghost use Rattle.desk_threads.specs.SavedNodes.{node_refused_saved, node_followed_on, node_saved_on};
+    ghost use Rattle.desk_threads.specs.SavedNodes.{node_failed_on, node_followed_keeps, node_saved_keeps};
 
-    ghost stands = { λ r past. past ≡ [] };
-
-    ghost base = { λ r. 0 };
-
-    ghost cut = { λ r. committed_entries r.owned.node.saved };
-
-    ghost is_saved = { IsSavedNode S.StateStore };
-
-    ghost saves = { SavesNode S.StateStore };
-
-    ghost fails = { FailsToSaveNode S.StateStore };
+    ghost saving = { node_saving S.StateStore };
 
     fn past_len(&self) -> u64 {
         0
@@ -78,4 +69,29 @@ impl<S: StateStore> SavedReplica for SavedNode<S> {
     ghost saved_last = { λ old new saves. node_saved_last _ old new saves };
 
     ghost saved_same = { λ old new saves. node_saved_same _ old new saves };
+
+    ghost refused_saved = { λ old new refused is. node_refused_saved S.last S.stopped old new refused is };
+
+    ghost followed_on = { λ old new follows. node_followed_on _ old new follows };
+
+    ghost saved_on = { λ old new saves. node_saved_on _ old new saves };
+
+    ghost failed_on = { λ old new fails. node_failed_on _ old new fails };
+
+    ghost followed_keeps = { λ old new follows. node_followed_keeps S.keeps S.preserved_still old new follows };
+
+    ghost saved_keeps = { λ old new saves. node_saved_keeps _ old new saves };
+
+    ghost keeps_further = { λ old mid new first last. S.preserved_further old.store mid.store new.store first last };
+}
+
+impl<S> SavedNode<S> {
+    /// The node as the items so far left it, and its store.
+    pub fn into_parts(self) -> (OwnedNode, S)
+        ensures owned { result.0 ≡ self.owned }
+        ensures store { result.1 ≡ self.store }
+    {
+        let SavedNode { owned, store } = self;
+        (owned, store)
+    }
 }

@@ -1,11 +1,10 @@
-//! A turn of items: their steps in memory, one save, one publish, their packets, and what their sessions are told, in
+//! A turn of items: their steps in memory, one save, one publish, their packets, and what their sessions get, in
 //! this order.
 
 ghost use Rattle.std.specs.Prelude.{◌≡◌, ◌<◌, ◌++◌, ◌∷◌, List, Some, None, true, false, length, map};
 ghost use Rattle.std.specs.Prelude.{option_to_list, IfOk, IfErr, OnOk, OnErr};
 ghost use Rattle.std.specs.List.{AllZip};
 ghost use mathlib.Core.List.{IsPrefix};
-ghost use Rattle.desk_log.specs.SavedValue.{committed_entries};
 ghost use Rattle.desk_mailbox.specs.Ends.{taken_by, IsSameTaker};
 ghost use Rattle.desk_mailbox.specs.declared.item.Item.TheVariants as items;
 ghost use Rattle.desk_types.specs.declared.refusal.Refusal.TheVariants as refusals;
@@ -14,15 +13,15 @@ ghost use Rattle.desk_threads.specs.Waiting.{after_stop, HearsAll, Tells};
 ghost use Rattle.desk_threads.specs.EndingItems.{OnlyLastEnds};
 ghost use Rattle.desk_threads.specs.Telling.{after_items, NotesItems, TellsOfStop, TellsRoundLate};
 ghost use Rattle.desk_threads.specs.Turns.{packets_of_steps, answers_of_steps, MetAndSaved};
-ghost use Rattle.desk_threads.specs.Runs.{items_in, stand, EndsInStop, TakesTurn, DoesUnsaved};
+ghost use Rattle.desk_threads.specs.Runs.{items_in, stand, EndsInStop, TakesTurn};
+ghost use Rattle.desk_threads.specs.SavedItems.{MeetsAndFails};
+ghost use Rattle.desk_threads.specs.Saving.{IsNoted, replica_history};
 
 use crate::handing::Out;
 use crate::keeper::Keeper;
-use crate::saved_node::SavedNode;
 use crate::saved_replica::SavedReplica;
 use crate::turn::{Turn, hand_steps};
 use crate::waiting::WaitingSessions;
-use desk_log::StateStore;
 use desk_mailbox::Item;
 use desk_published::{BoardName, BoardWriter};
 use desk_types::Refusal;
@@ -38,14 +37,14 @@ fn act_all_and_save<B: BoardName, R: SavedReplica, W: Wait>(
     item: Item,
     most: usize,
 ) -> (Turn<B, R>, Result<(), Refusal>)
-    requires saved { R.SavedReplica.is_saved turn.replica }
+    requires saved { R.SavedReplica.saving.is_saved turn.replica }
     requires positive { 0 < most }
     requires late { turn.late ≡ None }
     ensures taker { IsSameTaker turn.taker result.0.taker }
     ensures did { (sent : List _) × (length sent < most)
         × (taken_by result.0.taker ≡ taken_by turn.taker ++ sent)
-        × MetAndSaved R.Replica R.SavedReplica.saves R.SavedReplica.fails turn.replica turn.steps.items
-        (item ∷ items_in sent) result.1 result.0.replica result.0.steps.items
+        × MetAndSaved R.Replica R.SavedReplica.saving turn.replica turn.steps.items (item ∷ items_in sent) result.1
+        result.0.replica result.0.steps.items
         × NotesItems (item ∷ items_in sent) turn.waiting result.0.waiting result.0.late
         × OnlyLastEnds (item ∷ items_in sent) }
     ensures fault { IfErr result.1 (λ r. r ≡ refusals.StoreFault) }
@@ -74,20 +73,18 @@ fn note_late<B: BoardName>(waiting: &mut WaitingSessions<B>, late: &Option<Item>
 }
 
 /// Publishes what a turn committed, hands its packets out, and tells its sessions, once it is saved.
-fn end_saved<B: BoardName, S: StateStore, R: Wait, O: Out>(
-    rt: &R,
+fn end_saved<B: BoardName, R: SavedReplica, W: Wait, O: Out>(
+    rt: &W,
     alloc: Global,
     writer: BoardWriter<B>,
-    turn: Turn<B, SavedNode<S>>,
+    turn: Turn<B, R>,
     out: &mut O,
-) -> Keeper<B, S>
-    requires last { S.last turn.replica.store ≡ turn.replica.owned.node.saved }
-    requires running { S.stopped turn.replica.store ≡ false }
-    requires noted { EqualsPrefix writer.noted (committed_entries turn.replica.owned.node.saved) }
-    requires domain { turn.replica.owned.node.domain ≡ B.domain }
+) -> Keeper<B, R>
+    requires last { R.SavedReplica.saving.is_saved turn.replica }
+    requires noted { IsNoted R.SavedReplica.saving turn.replica writer.noted }
+    requires domain { (R.SavedReplica.saving.owner turn.replica).domain ≡ B.domain }
     ensures taker { result.taker ≡ turn.taker }
-    ensures owned { result.owned ≡ turn.replica.owned }
-    ensures store { result.store ≡ turn.replica.store }
+    ensures replica { result.replica ≡ turn.replica }
     ensures stopped { result.stopped ≡ false }
     ensures gave { O.Out.takes out.old (packets_of_steps turn.steps.items) out.new }
     ensures grows { IsPrefix (published writer.inner) (published result.writer.inner) }
@@ -102,18 +99,21 @@ fn end_saved<B: BoardName, S: StateStore, R: Wait, O: Out>(
         late,
         is_over: _,
     } = turn;
-    let SavedNode { owned, store } = replica;
-    let (writer, all_published) = writer.publish(rt, owned.node().saved(), true);
+    let (writer, all_published) = writer.publish_after(
+        rt,
+        replica.past_len(),
+        replica.committed(),
+        true,
+    );
     hand_steps(out, &mut waiting, steps);
-    // who is answered in this turn is told so before a tick or a stop can end the wait
+    // who is answered in this turn hears so before a tick or a stop can end the wait
     waiting.tell(rt, &writer);
     note_late(&mut waiting, &late);
     drop(late);
     waiting.tell(rt, &writer);
     Keeper {
         taker,
-        owned,
-        store,
+        replica,
         writer,
         waiting,
         stopped: false,
@@ -123,18 +123,18 @@ fn end_saved<B: BoardName, S: StateStore, R: Wait, O: Out>(
 }
 
 /// Refuses all that wait, where a turn was not saved. Nothing is published, and nothing goes out.
-fn end_unsaved<B: BoardName, S: StateStore, R: Wait>(
-    rt: &R,
+fn end_unsaved<B: BoardName, R: SavedReplica, W: Wait>(
+    rt: &W,
     alloc: Global,
     writer: BoardWriter<B>,
-    turn: Turn<B, SavedNode<S>>,
-) -> Keeper<B, S>
-    requires noted { EqualsPrefix writer.noted (committed_entries turn.replica.owned.node.saved) }
-    requires shown { EqualsPrefix (published writer.inner) (committed_entries turn.replica.owned.node.saved) }
-    requires domain { turn.replica.owned.node.domain ≡ B.domain }
+    turn: Turn<B, R>,
+) -> Keeper<B, R>
+    requires noted { IsNoted R.SavedReplica.saving turn.replica writer.noted }
+    requires shown { EqualsPrefix (published writer.inner)
+        (replica_history R.SavedReplica.saving turn.replica writer.noted) }
+    requires domain { (R.SavedReplica.saving.owner turn.replica).domain ≡ B.domain }
     ensures taker { result.taker ≡ turn.taker }
-    ensures owned { result.owned ≡ turn.replica.owned }
-    ensures store { result.store ≡ turn.replica.store }
+    ensures replica { result.replica ≡ turn.replica }
     ensures stopped { result.stopped ≡ true }
     ensures writer { result.writer ≡ writer }
     ensures reported { AllZip (Tells (published writer.inner))
@@ -148,7 +148,6 @@ fn end_unsaved<B: BoardName, S: StateStore, R: Wait>(
         late,
         is_over: _,
     } = turn;
-    let SavedNode { owned, store } = replica;
     drop(steps);
     note_late(&mut waiting, &late);
     drop(late);
@@ -156,8 +155,7 @@ fn end_unsaved<B: BoardName, S: StateStore, R: Wait>(
     waiting.tell(rt, &writer);
     Keeper {
         taker,
-        owned,
-        store,
+        replica,
         writer,
         waiting,
         stopped: true,
@@ -166,24 +164,24 @@ fn end_unsaved<B: BoardName, S: StateStore, R: Wait>(
     }
 }
 
-impl<B: BoardName, S: StateStore> Keeper<B, S> {
+impl<B: BoardName, R: SavedReplica> Keeper<B, R> {
     // Does an item that was taken, and those that are there after it, so many in all at most, where the store has not
     // failed. False after `Stop`.
-    pub(crate) fn serve_turn<R: Wait, O: Out>(
+    pub(crate) fn serve_turn<W: Wait, O: Out>(
         self,
-        rt: &R,
+        rt: &W,
         item: Item,
         most: usize,
         out: &mut O,
-    ) -> (Keeper<B, S>, Result<bool, Refusal>)
+    ) -> (Keeper<B, R>, Result<bool, Refusal>)
         requires running { self.stopped ≡ false }
         requires positive { 0 < most }
         ensures taker { IsSameTaker self.taker result.0.taker }
         ensures did { OnOk result.1 ((sent : List _) × (taken_by result.0.taker ≡ taken_by self.taker ++ sent)
-            × TakesTurn O.Out S.StateStore most (item ∷ items_in sent)
-            (stand self.owned self.waiting self.store (published self.writer.inner)
+            × TakesTurn O.Out R.Replica R.SavedReplica.saving most (item ∷ items_in sent)
+            (stand self.replica self.waiting (published self.writer.inner)
             self.all_published out.old)
-            (stand result.0.owned result.0.waiting result.0.store (published result.0.writer.inner)
+            (stand result.0.replica result.0.waiting (published result.0.writer.inner)
             result.0.all_published out.new)) }
         ensures stopped { IfOk result.1 (λ more. more ≡ false → (sent : List _)
             × (taken_by result.0.taker ≡ taken_by self.taker ++ sent) × EndsInStop (item ∷ items_in sent)) }
@@ -193,26 +191,22 @@ impl<B: BoardName, S: StateStore> Keeper<B, S> {
             × (published result.0.writer.inner ≡ published self.writer.inner)
             × TellsOfStop (published self.writer.inner) (item ∷ items_in sent) self.waiting
             result.0.waiting
-            × DoesUnsaved S.StateStore (item ∷ items_in sent)
-            (stand self.owned self.waiting self.store (published self.writer.inner)
-            self.all_published out.old)
-            (stand result.0.owned result.0.waiting result.0.store (published result.0.writer.inner)
-            result.0.all_published out.new)) }
+            × MeetsAndFails R.Replica R.SavedReplica.saving self.replica (item ∷ items_in sent)
+            result.0.replica) }
         ensures running { OnOk result.1 (result.0.stopped ≡ false) }
         ensures stops { OnErr result.1 (result.0.stopped ≡ true) }
         ensures fault { IfErr result.1 (λ r. r ≡ refusals.StoreFault) }
     {
         let Keeper {
             taker,
-            owned,
-            store,
+            replica,
             writer,
             waiting,
             stopped: _,
             all_published: _,
             alloc,
         } = self;
-        let turn = Turn::new(alloc, taker, SavedNode { owned, store }, waiting);
+        let turn = Turn::new(alloc, taker, replica, waiting);
         let (turn, outcome) = act_all_and_save(rt, alloc, turn, item, most);
         match outcome {
             Ok(()) => {

@@ -31,7 +31,7 @@ pub(crate) struct Turn<B: BoardName, R: Replica> {
     pub(crate) waiting: WaitingSessions<B>,
     /// What they made, in order.
     pub(crate) steps: Vec<ItemStep>,
-    /// A tick or a stop, which is the last of them. The sessions that wait are told of it after all others.
+    /// A tick or a stop, which is the last of them. The sessions that wait hear of it after all others.
     pub(crate) late: Option<Item>,
     /// Whether it takes no more items.
     pub(crate) is_over: bool,
@@ -237,14 +237,13 @@ impl<B: BoardName, R: Replica> Turn<B, R> {
 impl<B: BoardName, R: SavedReplica> Turn<B, R> {
     /// Saves what the items made, where the caller knows how much was committed when it was saved last.
     pub(crate) fn save(self, known: u64) -> (Turn<B, R>, Result<(), Refusal>)
-        requires { (before : R) × R.SavedReplica.is_saved before × R.Replica.follows before self.replica
-            × (known ≡ length (R.SavedReplica.cut before)) }
+        requires { (before : R) × R.SavedReplica.saving.is_saved before × R.Replica.follows before self.replica
+            × (known ≡ length (R.SavedReplica.saving.cut before)) }
         ensures taker { result.0.taker ≡ self.taker }
         ensures waiting { result.0.waiting ≡ self.waiting }
         ensures steps { result.0.steps.items ≡ self.steps.items }
         ensures late { result.0.late ≡ self.late }
-        ensures saved { EndsInSave R.SavedReplica.saves R.SavedReplica.fails self.replica result.1
-            result.0.replica }
+        ensures saved { EndsInSave R.SavedReplica.saving self.replica result.1 result.0.replica }
         ensures fault { IfErr result.1 (λ r. r ≡ refusals.StoreFault) }
     {
         let Turn {

@@ -23,7 +23,7 @@ pub struct WaitingSessions<B: BoardName> {
     sessions: Vec<WaitingSession<B>>,
 }
 
-// It is written out, so that a caller does not prove again how each part is dropped.
+// Written out, so that callers need not prove each part's drop.
 impl<B: BoardName> Drop for WaitingSessions<B> {
     fn drop(self) {
         let WaitingSessions { sessions: _ } = self;
@@ -112,7 +112,7 @@ impl<B: BoardName> WaitingSessions<B> {
     }
 
     /// An item has come. The session whose request it is waits for that from now on. At a tick those that have waited
-    /// for `WAITING_TICKS` of them are refused by 32, at a stop all that wait by 34.
+    /// for `WAITING_TICKS` of them are refused by `Waiting`, at a stop all that wait by `NodeStopped`.
     pub fn note(&mut self, item: &Item)
         ensures { self.new ≡ after_item item.now self.old }
     {
@@ -137,7 +137,7 @@ impl<B: BoardName> WaitingSessions<B> {
         each_hears_all(&mut self.sessions, answers.outcomes.as_slice());
     }
 
-    /// The node has stopped: all that wait are refused by 34.
+    /// The node has stopped: all that wait are refused by `NodeStopped`.
     pub fn stop(&mut self)
         ensures { self.new ≡ map after_stop self.old }
     {

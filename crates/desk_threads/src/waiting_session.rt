@@ -27,7 +27,7 @@ pub(crate) struct WaitingSession<B: BoardName> {
     ticks: u64,
 }
 
-// It is written out, so that a caller does not prove again how each part is dropped.
+// Written out, so that callers need not prove each part's drop.
 impl<B: BoardName> Drop for WaitingSession<B> {
     fn drop(self) {
         let WaitingSession {
@@ -65,7 +65,7 @@ fn one_tick_more(ticks: u64) -> u64
     }
 }
 
-// What can be told of a request; else what it waits for, as it was.
+// What can be reported of a request; else what it waits for, as it was.
 fn word_on<B: BoardName>(
     writer: &BoardWriter<B>,
     client: ClientId,
@@ -89,7 +89,7 @@ fn word_on<B: BoardName>(
 }
 
 impl<B: BoardName> WaitingSession<B> {
-    /// A session that has asked nothing, and is told on this channel.
+    /// A session that has asked nothing, and is answered on this channel.
     pub(crate) fn new(to: Sender<Reported<B>>) -> WaitingSession<B>
         ensures { result ≡ idle }
     {
@@ -140,7 +140,7 @@ impl<B: BoardName> WaitingSession<B> {
         }
     }
 
-    /// The node has stopped: an open request is refused by 34.
+    /// The node has stopped: an open request is refused by `NodeStopped`.
     pub(crate) fn stop(&mut self)
         ensures { self.new ≡ after_stop self.old }
     {
@@ -197,7 +197,7 @@ impl<B: BoardName> WaitingSession<B> {
         }
     }
 
-    // What can be told of its last request. It is told once.
+    // What can be reported of its last request. It is reported once.
     fn word_asked(&mut self, writer: &BoardWriter<B>) -> Option<Reported<B>>
         ensures { MatchOption result
             ((word_asked (published writer.now.inner) self.old.asked self.old.awaits ≡ None)
@@ -220,7 +220,7 @@ impl<B: BoardName> WaitingSession<B> {
         }
     }
 
-    // What it can be told now. It is told once.
+    // What can be reported to it now. It is reported once.
     fn word(&mut self, writer: &BoardWriter<B>) -> Option<Reported<B>>
         ensures { MatchOption result
             ((word_to_tell (published writer.now.inner) self.old ≡ None) × (self.new ≡ self.old))
@@ -261,7 +261,7 @@ impl<B: BoardName> WaitingSession<B> {
         self.keep_unsent(sent);
     }
 
-    /// Tells what can be told now. A word for which its channel has no room is left for the next time.
+    /// Reports what can be reported now. A word for which its channel has no room is left for the next time.
     pub(crate) fn tell<R: Wait>(&mut self, rt: &R, writer: &BoardWriter<B>)
         ensures { Tells (published writer.now.inner) self.old self.new }
     {

@@ -45,7 +45,7 @@ enum End {
     Wrong,
 }
 
-/// Whether a keeper refuses an item by 34, with no packet.
+/// Whether a keeper refuses an item by `NodeStopped`, with no packet.
 fn is_stopped<K: Keeps>(alloc: Global, keeper: K) -> (K, bool) {
     let (keeper, made, packets) = give(alloc, keeper, Given::Tick);
     (keeper, made == Made::NodeStopped && packets == 0)

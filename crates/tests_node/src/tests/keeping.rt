@@ -6,7 +6,7 @@ use crossbeam_utils::rule::Protocol;
 use desk_codec::get_packet;
 use desk_log::StateStore;
 use desk_published::{NextEntry, PrefixRule, PublishedBoard, SeatView};
-use desk_threads::{BoardName, Item, Keeper, Out, SESSIONS, Sender};
+use desk_threads::{BoardName, Item, Keeper, Out, SESSIONS, SavedNode, SavedReplica, Sender};
 use desk_types::{
     ClientId, Command, Entry, Message, Packet, Refusal, RequestNumber, UnitName, WantOfMemory,
 };
@@ -237,7 +237,7 @@ fn made_of(outcome: &Result<bool, Refusal>) -> Made {
 }
 
 /// Where a keeper stands.
-fn stand_of<B: BoardName, S: StateStore>(keeper: &Keeper<B, S>) -> Stand {
+fn stand_of<B: BoardName, S: StateStore>(keeper: &Keeper<B, SavedNode<S>>) -> Stand {
     Stand {
         view: keeper.node().saved().view(),
         entries: keeper.node().saved().log().len(),
@@ -250,18 +250,19 @@ fn stand_of<B: BoardName, S: StateStore>(keeper: &Keeper<B, S>) -> Stand {
 /// Ends a keeper: the store of its node.
 pub(super) fn end_keeper<B: BoardName, S: StateStore + Drop, R: Wait>(
     rt: &R,
-    keeper: Keeper<B, S>,
+    keeper: Keeper<B, SavedNode<S>>,
 ) -> S {
-    let (taker, preserved, store) = keeper.end(rt);
+    let (taker, preserved) = keeper.end(rt);
+    let (owned, store) = preserved.into_parts();
     drop(taker);
-    drop(preserved);
+    drop(owned);
     store
 }
 
 /// Ends what may be a keeper: the store of its node.
 fn end_held<B: BoardName, S: StateStore + Drop, R: Wait>(
     rt: &R,
-    held: Option<Keeper<B, S>>,
+    held: Option<Keeper<B, SavedNode<S>>>,
 ) -> Option<S> {
     match held {
         Some(keeper) => Some(end_keeper(rt, keeper)),
@@ -275,8 +276,9 @@ pub(super) struct Held<B: BoardName, S: StateStore + Drop, R: Wait + Drop>
 where
     PublishedBoard<B>: Absorb<NextEntry<B>, State = [Entry; 0]>,
     PrefixRule: Protocol<PublishedBoard<B>, SeatView>,
+    SavedNode<S>: SavedReplica,
 {
-    keeper: Box<Option<Keeper<B, S>>>,
+    keeper: Box<Option<Keeper<B, SavedNode<S>>>>,
     /// Puts into its mailbox, until that is closed.
     sender: Option<Sender<Item>>,
     /// Where it stood when it was put back.
@@ -293,9 +295,9 @@ impl<B: BoardName, S: StateStore + Drop, R: Wait + Drop> Drop for Held<B, S, R> 
 /// What a keeper makes of an item, how many packets go out, and where it stands then.
 fn handled<B: BoardName, S: StateStore, R: Wait>(
     rt: &R,
-    keeper: Keeper<B, S>,
+    keeper: Keeper<B, SavedNode<S>>,
     item: Item,
-) -> (Keeper<B, S>, Made, u64, Stand) {
+) -> (Keeper<B, SavedNode<S>>, Made, u64, Stand) {
     let mut out = Count { sent: UNSENT };
     let (keeper, outcome) = keeper.handle(rt, item, &mut out);
     let made = made_of(&outcome);
@@ -317,9 +319,9 @@ fn made_of_turns(outcome: Result<(), Refusal>, is_published: bool) -> Made {
 /// stands then.
 pub(super) fn handled_in_turns<B: BoardName, S: StateStore, R: Wait>(
     rt: &R,
-    keeper: Keeper<B, S>,
+    keeper: Keeper<B, SavedNode<S>>,
     most: u64,
-) -> (Keeper<B, S>, Made, Sent, Stand)
+) -> (Keeper<B, SavedNode<S>>, Made, Sent, Stand)
     ensures { IsSameTaker keeper.taker result.0.taker }
 {
     let mut out = Count { sent: UNSENT };
@@ -348,7 +350,7 @@ pub(super) fn put_with<R: Wait>(rt: &R, sender: Sender<Item>, item: Item) -> Sen
 /// Has the keeper of a block do an item.
 fn do_in_block<B: BoardName, S: StateStore + Drop, R: Wait>(
     rt: &R,
-    block: &mut Box<Option<Keeper<B, S>>>,
+    block: &mut Box<Option<Keeper<B, SavedNode<S>>>>,
     item: Item,
 ) -> (Made, u64, Stand) {
     match Box::replace(block, None) {
@@ -367,7 +369,7 @@ fn do_in_block<B: BoardName, S: StateStore + Drop, R: Wait>(
 /// Has the keeper of a block do what is in its mailbox, in turns.
 fn do_turns_in_block<B: BoardName, S: StateStore + Drop, R: Wait>(
     rt: &R,
-    block: &mut Box<Option<Keeper<B, S>>>,
+    block: &mut Box<Option<Keeper<B, SavedNode<S>>>>,
     most: u64,
 ) -> (Made, Sent, Stand) {
     match Box::replace(block, None) {
@@ -420,7 +422,7 @@ impl<B: BoardName, S: StateStore + Drop, R: Wait + Drop> Held<B, S, R> {
     pub(super) fn new(
         rt: R,
         alloc: Global,
-        keeper: Keeper<B, S>,
+        keeper: Keeper<B, SavedNode<S>>,
         sender: Option<Sender<Item>>,
     ) -> Result<Held<B, S, R>, WantOfMemory> {
         let stand = stand_of(&keeper);

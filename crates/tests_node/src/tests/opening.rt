@@ -5,7 +5,9 @@ ghost use Rattle.desk_mailbox.specs.Ends.{IsNewSender};
 
 use desk_log::StateStore;
 use desk_saved::SavedState;
-use desk_threads::{BoardName, Item, Keeper, NewHistory, Sender, SessionEnds, open_saved};
+use desk_threads::{
+    BoardName, Item, Keeper, NewHistory, SavedNode, Sender, SessionEnds, open_saved,
+};
 use desk_types::{Domain, Owner, WantOfMemory};
 use sqlite::{Alter, Connection};
 use std::alloc::Global;
@@ -31,7 +33,11 @@ pub(super) fn open_store<S: Alter + Drop>(
 }
 
 /// A keeper with its senders and the ends of its sessions.
-pub(super) type OpenedKeeper<B, S> = (Keeper<B, S>, Vec<Sender<Item>>, Vec<SessionEnds<B>>);
+pub(super) type OpenedKeeper<B, S> = (
+    Keeper<B, SavedNode<S>>,
+    Vec<Sender<Item>>,
+    Vec<SessionEnds<B>>,
+);
 
 /// The keeper of node `id` of three over a store, which goes on where the state that is saved there ends.
 pub(super) fn open_at<B: BoardName, S: StateStore + Drop, R: Wait>(

@@ -6,7 +6,7 @@ ghost use Rattle.desk_mailbox.specs.Ends.{SendsTo};
 use super::talking::SessionParts;
 use desk_log::StateStore;
 use desk_threads::{
-    BoardName, Gathered, Item, KeeperGuard, SENDERS, SESSIONS, Sender, SessionEnds,
+    BoardName, Gathered, Item, KeeperGuard, SENDERS, SESSIONS, SavedNode, Sender, SessionEnds,
 };
 use std::sync::Wait;
 
@@ -22,7 +22,7 @@ pub(super) type TakenEnds<B> = (Sender<Item>, SessionParts<B>, SessionParts<B>);
 
 /// The last sender, and the first two sessions.
 pub(super) fn take_all<B: BoardName, S: StateStore + Drop, R: Wait + Drop>(
-    guard: &KeeperGuard<B, S, R>,
+    guard: &KeeperGuard<B, SavedNode<S>, R>,
     ends: &mut NodeEnds<B>,
 ) -> Option<TakenEnds<B>>
     requires all { All (SendsTo guard.now.keeper.value.taker) ends.old.senders.items }
@@ -45,7 +45,7 @@ pub(super) fn take_all<B: BoardName, S: StateStore + Drop, R: Wait + Drop>(
 
 /// Gives a sender back.
 pub(super) fn give_sender<B: BoardName, S: StateStore + Drop, R: Wait + Drop>(
-    guard: &KeeperGuard<B, S, R>,
+    guard: &KeeperGuard<B, SavedNode<S>, R>,
     ends: &mut NodeEnds<B>,
     sender: Sender<Item>,
 )
@@ -58,7 +58,7 @@ pub(super) fn give_sender<B: BoardName, S: StateStore + Drop, R: Wait + Drop>(
 
 /// The first session. Its sender is the one of the same number, while none was taken but the last.
 fn take_session<B: BoardName, S: StateStore + Drop, R: Wait + Drop>(
-    guard: &KeeperGuard<B, S, R>,
+    guard: &KeeperGuard<B, SavedNode<S>, R>,
     ends: &mut NodeEnds<B>,
 ) -> Option<SessionParts<B>>
     requires all { All (SendsTo guard.now.keeper.value.taker) ends.old.senders.items }
@@ -76,7 +76,7 @@ fn take_session<B: BoardName, S: StateStore + Drop, R: Wait + Drop>(
 
 /// Gives a session back.
 pub(super) fn give_session<B: BoardName, S: StateStore + Drop, R: Wait + Drop>(
-    guard: &KeeperGuard<B, S, R>,
+    guard: &KeeperGuard<B, SavedNode<S>, R>,
     ends: &mut NodeEnds<B>,
     parts: SessionParts<B>,
 )
@@ -95,9 +95,9 @@ pub(super) fn give_session<B: BoardName, S: StateStore + Drop, R: Wait + Drop>(
 /// Whether there is one more sender, and all that it put was done or is left.
 fn gather_sender<B: BoardName, S: StateStore, R: Wait>(
     rt: &R,
-    gathered: Gathered<B, S>,
+    gathered: Gathered<B, SavedNode<S>>,
     senders: &mut Vec<Sender<Item>>,
-) -> (Gathered<B, S>, bool)
+) -> (Gathered<B, SavedNode<S>>, bool)
     requires { All (SendsTo gathered.mailbox.taker) senders.old.items }
     ensures { All (SendsTo result.0.mailbox.taker) senders.new.items }
 {
@@ -113,9 +113,9 @@ fn gather_sender<B: BoardName, S: StateStore, R: Wait>(
 
 /// Whether there is one more session, and all that it read or was told is published.
 fn gather_reader<B: BoardName, S: StateStore>(
-    gathered: Gathered<B, S>,
+    gathered: Gathered<B, SavedNode<S>>,
     sessions: &mut Vec<SessionEnds<B>>,
-) -> (Gathered<B, S>, bool) {
+) -> (Gathered<B, SavedNode<S>>, bool) {
     match sessions.pop() {
         Some(ends) => {
             let SessionEnds { words, reader } = ends;
@@ -131,9 +131,9 @@ fn gather_reader<B: BoardName, S: StateStore>(
 /// Whether all that was put into a node's mailbox was done or is left, and all that its sessions saw is published.
 pub(super) fn gather_ends<B: BoardName, S: StateStore, R: Wait>(
     rt: &R,
-    gathered: Gathered<B, S>,
+    gathered: Gathered<B, SavedNode<S>>,
     ends: NodeEnds<B>,
-) -> (Gathered<B, S>, bool)
+) -> (Gathered<B, SavedNode<S>>, bool)
     requires { All (SendsTo gathered.mailbox.taker) ends.senders.items }
 {
     let NodeEnds { senders, sessions } = ends;

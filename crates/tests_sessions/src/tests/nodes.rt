@@ -11,7 +11,9 @@ use super::opening::open_at;
 use super::settling::{EndedNode, settle};
 use super::talking::{Meeting, Talks, talk};
 use desk_log::{MemoryStore, StateStore};
-use desk_threads::{BoardName, Item, Keeper, KeeperGuard, NewHistory, Sender, TURN_ITEMS};
+use desk_threads::{
+    BoardName, Item, Keeper, KeeperGuard, NewHistory, SavedNode, Sender, TURN_ITEMS,
+};
 use desk_types::Domain;
 use std::alloc::Global;
 use std::net::Shutdown;
@@ -21,7 +23,7 @@ use std::thread;
 use std::thread::Threads;
 
 /// How many items share a save at a keeper, at most: at node 1 each has one of its own.
-fn turn_items<B: BoardName, S: StateStore>(keeper: &Keeper<B, S>) -> usize
+fn turn_items<B: BoardName, S: StateStore>(keeper: &Keeper<B, SavedNode<S>>) -> usize
     ensures { 0 < result }
 {
     if keeper.node().id() == 1 {
@@ -35,9 +37,9 @@ fn turn_items<B: BoardName, S: StateStore>(keeper: &Keeper<B, S>) -> usize
 fn keep<B: BoardName, S: StateStore + Drop, R: Wait + Drop + Copy>(
     rt: &R,
     alloc: Global,
-    guard: KeeperGuard<B, S, R>,
+    guard: KeeperGuard<B, SavedNode<S>, R>,
     inboxes: &[Inbox],
-) -> Option<KeeperGuard<B, S, R>>
+) -> Option<KeeperGuard<B, SavedNode<S>, R>>
     ensures { IfSome result (λ g. IsSameTaker guard.keeper.value.taker g.keeper.value.taker) }
 {
     let mut outbox = Outbox { rt, inboxes };
@@ -66,11 +68,11 @@ fn keep_beside<
 >(
     rt: &R,
     alloc: Global,
-    guard: KeeperGuard<B, S, R>,
+    guard: KeeperGuard<B, SavedNode<S>, R>,
     inboxes: &[Inbox],
     carrying: F,
     talking: G,
-) -> ((T, U), Option<KeeperGuard<B, S, R>>)
+) -> ((T, U), Option<KeeperGuard<B, SavedNode<S>, R>>)
     requires { F.pre carrying × G.pre talking }
     ensures guard { IfSome result.1 (λ g. IsSameTaker guard.keeper.value.taker g.keeper.value.taker) }
     ensures carried { F.post carrying result.0.0 }
@@ -89,7 +91,7 @@ fn run_opened<
     rt: &R,
     alloc: Global,
     id: u8,
-    guard: KeeperGuard<B, S, R>,
+    guard: KeeperGuard<B, SavedNode<S>, R>,
     ends: NodeEnds<B>,
     meeting: Option<&Meeting>,
     inboxes: &[Inbox],
@@ -117,7 +119,7 @@ fn run_opened<
 /// The end of a node, with its senders and sessions given back. `None` where these did not see what they should.
 fn settle_talks<B: BoardName, S: StateStore + Drop, R: Wait + Drop>(
     rt: &R,
-    guard: KeeperGuard<B, S, R>,
+    guard: KeeperGuard<B, SavedNode<S>, R>,
     ends: NodeEnds<B>,
     carried: (Sender<Item>, Talks<B>),
 ) -> Option<EndedNode>

@@ -4,13 +4,19 @@ ghost use Rattle.std.specs.Prelude.{◌≡◌, ◌<◌, false, All, IfOk};
 ghost use Rattle.desk_mailbox.specs.Ends.{IsNewSender};
 
 use desk_log::StateStore;
-use desk_threads::{BoardName, Item, Keeper, NewHistory, Sender, SessionEnds, open_saved};
+use desk_threads::{
+    BoardName, Item, Keeper, NewHistory, SavedNode, Sender, SessionEnds, open_saved,
+};
 use desk_types::{Domain, Owner, WantOfMemory};
 use std::alloc::Global;
 use std::sync::Wait;
 
 /// A keeper with its senders and the ends of its sessions.
-pub(super) type OpenedKeeper<B, S> = (Keeper<B, S>, Vec<Sender<Item>>, Vec<SessionEnds<B>>);
+pub(super) type OpenedKeeper<B, S> = (
+    Keeper<B, SavedNode<S>>,
+    Vec<Sender<Item>>,
+    Vec<SessionEnds<B>>,
+);
 
 /// The keeper of node `id` of three over a store, which goes on where the state that is saved there ends.
 pub(super) fn open_at<B: BoardName, S: StateStore + Drop, R: Wait>(

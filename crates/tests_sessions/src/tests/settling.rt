@@ -6,7 +6,7 @@ ghost use Rattle.desk_mailbox.specs.Ends.{SendsTo};
 use super::ends::{NodeEnds, gather_ends};
 use super::lines::REQUESTS;
 use desk_log::StateStore;
-use desk_threads::{BoardName, KeeperGuard, OwnedNode, gather};
+use desk_threads::{BoardName, KeeperGuard, OwnedNode, SavedNode, gather};
 use std::sync::Wait;
 
 /// A node that has ended.
@@ -33,13 +33,13 @@ impl EndedNode {
 /// The end of a node, with all its senders and sessions.
 pub(super) fn settle<B: BoardName, S: StateStore + Drop, R: Wait + Drop>(
     rt: &R,
-    guard: KeeperGuard<B, S, R>,
+    guard: KeeperGuard<B, SavedNode<S>, R>,
     ends: NodeEnds<B>,
 ) -> EndedNode
     requires { All (SendsTo guard.keeper.value.taker) ends.senders.items }
 {
     let (gathered, is_whole) = gather_ends(rt, gather(guard.into_keeper()), ends);
-    let (preserved, store) = gathered.end(rt);
+    let (preserved, store) = gathered.end(rt).into_parts();
     drop(store);
     EndedNode {
         preserved,

@@ -1,36 +1,38 @@
-use Rattle.std.proofs.Common.{◌≡◌, ◌≢◌, ◌∙◌, refl, ap, sym, subst, MatchBool}
-use Rattle.desk_log.specs.SavedValue.{SavedValue, committed_entries}
-use Rattle.desk_node.specs.NodeValue.{NodeValue}
-use Rattle.desk_published.specs.Writer.{EqualsPrefix}
+use Rattle.std.proofs.Common.{◌≡◌, ◌≢◌, List, refl, subst, MatchBool}
+use mathlib.Core.List.{IsPrefix}
+use Rattle.desk_types.specs.declared.command.Entry.{Entry}
 use Rattle.desk_published.specs.Writer.{published}
-use Rattle.desk_threads.proofs.PublishedPrefixes.{shown_front, where_true, where_false}
+use Rattle.desk_published.proofs.PrefixEquations.{is_front}
+use Rattle.desk_threads.proofs.Histories.{before_publish, after_publish}
+use Rattle.desk_threads.proofs.PublishedPrefixes.{where_true, where_false}
 use Rattle.desk_threads.proofs.shared_save.end_saved.Goals as goal
 
-pub publish-writer-requires : goal.publish-writer-requires
-publish-writer-requires g c =
-    let is : c.saved.result.now ≡ c.args.turn.replica.owned.node.saved =
-    c.saved.ensures ∙ ap (λ (n : NodeValue). n.saved) c.node.ensures in
-    subst (λ (s : SavedValue). EqualsPrefix c.args.writer.noted (committed_entries s)) (sym is)
-    c.requires.noted
+pub publish_after-writer-requires-clause-past : goal.publish_after-writer-requires-clause-past
+publish_after-writer-requires-clause-past g c =
+    (before_publish g.R.SavedReplica.saving c.args.turn.replica c.past_len.result c.committed.result.now
+    c.args.writer.noted c.past_len.ensures c.committed.ensures c.requires.noted).0
+
+pub publish_after-writer-requires-clause-noted : goal.publish_after-writer-requires-clause-noted
+publish_after-writer-requires-clause-noted g c =
+    (before_publish g.R.SavedReplica.saving c.args.turn.replica c.past_len.result c.committed.result.now
+    c.args.writer.noted c.past_len.ensures c.committed.ensures c.requires.noted).1
 
 pub invariant_of-result : goal.invariant_of-result
 invariant_of-result g c =
-    let is : c.saved.result.now ≡ c.args.turn.replica.owned.node.saved =
-    c.saved.ensures ∙ ap (λ (n : NodeValue). n.saved) c.node.ensures in
-    let writer = c.publish-writer.result.0 in
-    let reported : MatchBool c.publish-writer.result.1
-    (published writer.inner ≡ committed_entries c.args.turn.replica.owned.node.saved)
-    (published writer.inner ≢ committed_entries c.args.turn.replica.owned.node.saved) =
-    subst (λ (s : SavedValue). MatchBool c.publish-writer.result.1
-    (published writer.inner ≡ committed_entries s) (published writer.inner ≢ committed_entries s)) is
-    (c.publish-writer.ensures.whole refl) in
+    let writer = c.publish_after-writer.result.0 in
+    let shown = published writer.inner in
+    let p = after_publish g.R.SavedReplica.saving c.args.turn.replica c.past_len.result c.committed.result.now
+    c.args.writer.noted writer.noted c.past_len.ensures c.committed.ensures c.requires.noted
+    c.publish_after-writer.ensures.past c.publish_after-writer.ensures.noted in
+    let reported = subst (λ (l : List Entry). MatchBool c.publish_after-writer.result.1 (shown ≡ l) (shown ≢ l)) p.1
+    (c.publish_after-writer.ensures.whole refl) in
     record {
-      noted = subst (λ (s : SavedValue). EqualsPrefix writer.noted (committed_entries s)) is
-          c.publish-writer.ensures.noted;
-      shown = shown_front _ c.saved.result.now c.args.turn.replica.owned.node.saved is
-          c.publish-writer.ensures.published;
+      past_noted = p.0.past_noted;
+      past_is = p.0.past_is;
+      noted = p.0.begins;
+      shown = is_front shown _
+          (subst (λ (l : List Entry). IsPrefix shown l) p.1 c.publish_after-writer.ensures.published);
       domain_is = c.requires.domain;
-      running = λ goes. c.requires.running;
       last = λ goes. c.requires.last;
       whole = λ goes. where_true _ _ _ reported;
       partial = λ goes. where_false _ _ _ reported;

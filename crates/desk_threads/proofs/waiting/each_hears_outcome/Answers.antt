@@ -1,9 +1,9 @@
-use Rattle.desk_threads.proofs.TurnTelling.{hears_told, hears_nothing}
+use Rattle.desk_threads.proofs.TurnTelling.{hears_some, hears_nothing}
 use Rattle.desk_threads.proofs.waiting.each_hears_outcome.Goals as goal
 
 pub returns-in-Some : goal.returns-in-Some
 returns-in-Some g c =
-    hears_told _ _ c.in-Some.answer c.args.sessions.now.items c.each_hears.new.sessions.items c.session_answer.ensures
+    hears_some _ _ c.in-Some.answer c.args.sessions.now.items c.each_hears.new.sessions.items c.session_answer.ensures
     c.in-Some.is c.each_hears.ensures
 
 pub returns-in-None : goal.returns-in-None

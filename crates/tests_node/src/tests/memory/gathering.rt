@@ -7,7 +7,7 @@ use super::super::keeping::{Given, end_keeper, handled_in_turns, item_of, put_wi
 use super::super::opening::open_at;
 use desk_log::{MemoryStore, StateStore};
 use desk_mailbox::{GatheredMailbox, SentItem, Taker, open_mailbox};
-use desk_threads::{BoardName, Item, Keeper, NewHistory, OwnedNode, Sender, gather};
+use desk_threads::{BoardName, Item, Keeper, NewHistory, OwnedNode, SavedNode, Sender, gather};
 use desk_types::Domain;
 use std::alloc::Global;
 use std::marker::Brand;
@@ -151,10 +151,10 @@ fn order_of(left: &[SentItem<Item>]) -> u64 {
 fn do_turn<B: BoardName, S: StateStore, R: Wait>(
     rt: &R,
     alloc: Global,
-    keeper: Keeper<B, S>,
+    keeper: Keeper<B, SavedNode<S>>,
     sender: Sender<Item>,
     row: &EndRow,
-) -> (Keeper<B, S>, Sender<Item>)
+) -> (Keeper<B, SavedNode<S>>, Sender<Item>)
     requires { SendsTo keeper.taker sender }
     ensures { SendsTo result.0.taker result.1 }
 {
@@ -171,15 +171,14 @@ fn do_turn<B: BoardName, S: StateStore, R: Wait>(
 fn is_rest_left<B: BoardName, S: StateStore + Drop, R: Wait>(
     rt: &R,
     alloc: Global,
-    keeper: Keeper<B, S>,
+    keeper: Keeper<B, SavedNode<S>>,
     sender: Sender<Item>,
     row: &EndRow,
 ) -> bool
     requires { SendsTo keeper.taker sender }
 {
-    let (taker, preserved, store) = keeper.end(rt);
+    let (taker, preserved) = keeper.end(rt);
     drop(preserved);
-    drop(store);
     let mailbox = GatheredMailbox::new(alloc, taker);
     let (mailbox, sender, first) = mailbox.sender(rt, sender);
     let (mailbox, sender, second) = mailbox.sender(rt, sender);
@@ -198,7 +197,7 @@ fn is_taken_done(preserved: &OwnedNode, row: &EndRow) -> bool {
 /// Whether a keeper that ends finds all that a sender put, at the second time at the latest, and did what it took.
 fn is_found<B: BoardName, S: StateStore + Drop, R: Wait>(
     rt: &R,
-    keeper: Keeper<B, S>,
+    keeper: Keeper<B, SavedNode<S>>,
     sender: Sender<Item>,
     row: &EndRow,
 ) -> bool
@@ -209,14 +208,14 @@ fn is_found<B: BoardName, S: StateStore + Drop, R: Wait>(
     let (gathered, sender, second) = gathered.sender(rt, sender);
     drop(sender);
     let _ = first;
-    let (preserved, store) = gathered.end(rt);
+    let (preserved, store) = gathered.end(rt).into_parts();
     drop(store);
     second.is_ok() && is_taken_done(&preserved, row)
 }
 
 /// The last sender of a keeper.
 fn pop_keepers<B: BoardName, S: StateStore>(
-    keeper: &Keeper<B, S>,
+    keeper: &Keeper<B, SavedNode<S>>,
     senders: Vec<Sender<Item>>,
 ) -> Option<Sender<Item>>
     requires { All (IsNewSender keeper.now.taker) senders.items }

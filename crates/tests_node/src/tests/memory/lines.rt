@@ -77,7 +77,7 @@ fn serve_line<N: Serves>(alloc: Global, near: N, line: &str, reply: &str, way: W
 }
 
 /// Whether this may come of a line that is sent again. In turns a stop comes after each request: one that was not
-/// answered is told 34 also where the store did not fail.
+/// answered hears `NodeStopped` also where the store did not fail.
 fn may_follow(first: Came, second: Came, way: Way) -> bool {
     match (first, second, way) {
         (Came::Refused, Came::Replied, _) => true,

@@ -99,7 +99,7 @@ fn is_done_at_last<N: Serves>(alloc: Global, near: N, row: &TurnRow) -> (N, bool
     (near, is_well)
 }
 
-/// Whether a keeper refuses an item by 34, with no packet.
+/// Whether a keeper refuses an item by `NodeStopped`, with no packet.
 fn is_stopped<N: Serves>(alloc: Global, near: N) -> (N, bool) {
     let (near, made, packets) = give(alloc, near, Given::Tick);
     (near, made == Made::NodeStopped && packets == 0)

@@ -1,6 +1,7 @@
-use Rattle.std.proofs.Common.{[], ◌∙◌, append-nil, ap, sym}
+use Rattle.std.proofs.Common.{[], ◌∙◌, append-nil, ap, sym, subst}
 use Rattle.desk_published.proofs.PrefixEquations.{is_prefix}
 use Rattle.desk_published.specs.Writer.{published}
+use Rattle.desk_threads.specs.Saving.{LogsGoOn}
 use Rattle.desk_threads.proofs.keeper.Keeper.handle.Goals as goal
 
 pub returns-then-self-clause-shown : goal.returns-then-self-clause-shown
@@ -12,3 +13,9 @@ returns-then-self-clause-grows g c = (
   append-nil (published c.args.self.writer.inner)
       ∙ ap (λ (p : _). published p.inner) (sym c.refuse-keeper.ensures.writer),
 )
+
+pub returns-then-self-clause-same : goal.returns-then-self-clause-same
+returns-then-self-clause-same g c =
+    subst (λ r. LogsGoOn g.R.SavedReplica.saving c.args.self.replica r) (sym c.refuse-keeper.ensures.replica)
+    (g.met.R.SavedReplica.followed_on c.args.self.replica c.args.self.replica
+    (g.met.R.Replica.follows_still c.args.self.replica))

@@ -1,17 +1,18 @@
 use Rattle.std.proofs.Common.{rules, refl, ◌∙◌}
 use Rattle.desk_mailbox.specs.Ends.{taken_by}
 use Rattle.desk_published.specs.Writer.{published}
-use Rattle.desk_threads.proofs.KeeperRuns.{on_ok, if_ok, on_err, if_err, filed_then, filed_still}
+use Rattle.desk_threads.proofs.KeeperRuns.{on_ok, if_ok, on_err, if_err, stays_then, stays_same}
 use Rattle.desk_threads.proofs.KeeperTurns.{turns_none, turns_then, turns_to_end, end_ran, end_run_out}
 use Rattle.desk_threads.specs.Runs.{stand}
 use Rattle.desk_threads.proofs.keeper.Keeper.run_turns.Goals as goal
 
 pub loop-init : goal.loop-init
 loop-init g c = (
-  turns_none g.O.Out g.S.StateStore _ _ _,
+  turns_none g.O.Out g.R.Replica g.R.SavedReplica.saving _ _ _,
   λ works. (
     works,
-    filed_still g.S.StateStore _ _ g.met.S.StateStore.preserved_still (c.args.self.running works)
+    stays_same g.R.SavedReplica.saving _ _
+        (λ r. g.met.R.SavedReplica.followed_keeps r r (g.met.R.Replica.follows_still r)) refl
         (c.args.self.last works),
   ),
   refl,
@@ -20,43 +21,44 @@ loop-init g c = (
 
 pub loop-preserved : goal.loop-preserved
 loop-preserved g c = (
-  turns_then g.O.Out g.S.StateStore _ _ _ _ _ _ _ c.loop.invariant.0
+  turns_then g.O.Out g.R.Replica g.R.SavedReplica.saving _ _ _ _ _ _ _ c.loop.invariant.0
       (if_ok c.turn-back.result.1 _ _ c.in-Ok-true.is c.turn-back.ensures.went (search rules)),
   λ works.
       let r = c.loop.invariant.1 works in
-      let s = on_ok c.turn-back.result.1 _ _ c.in-Ok-true.is (c.turn-back.ensures.filed r.0) in
-      (s.0, filed_then _ _ _ _ _ _ g.met.S.StateStore.preserved_further r.1 s.1),
+      let s = on_ok c.turn-back.result.1 _ _ c.in-Ok-true.is (c.turn-back.ensures.saved r.0) in
+      (s.0, stays_then g.R.SavedReplica.saving _ _ _ g.met.R.SavedReplica.keeps_further r.1 s.1),
   c.turn-back.ensures.same ∙ c.loop.invariant.2,
   on_ok c.turn-back.result.1 _ _ c.in-Ok-true.is c.turn-back.ensures.still ∙ c.loop.invariant.3,
 )
 
 pub returns-in-Ok-false-clause-did : goal.returns-in-Ok-false-clause-did
 returns-in-Ok-false-clause-did g c =
-    end_ran g.O.Out g.S.StateStore g.met.O.Out.takes_none g.met.O.Out.takes_then c.args.most _ _ _ _ _
-    (turns_to_end g.O.Out g.S.StateStore _ _ _ _ _ _ _ _ c.loop.invariant.0
+    end_ran g.O.Out g.R.Replica g.R.SavedReplica.saving g.met.O.Out.takes_none
+    g.met.O.Out.takes_then c.args.most _ _ _ _ _
+    (turns_to_end g.O.Out g.R.Replica g.R.SavedReplica.saving _ _ _ _ _ _ _ _ c.loop.invariant.0
     (if_ok c.turn-back.result.1 _ _ c.in-Ok-false.is c.turn-back.ensures.turns (search rules)))
 
 pub returns-in-Ok-false-clause-turns : goal.returns-in-Ok-false-clause-turns
 returns-in-Ok-false-clause-turns g c =
-    turns_to_end g.O.Out g.S.StateStore _ _ _ _ _ _ _ _ c.loop.invariant.0
+    turns_to_end g.O.Out g.R.Replica g.R.SavedReplica.saving _ _ _ _ _ _ _ _ c.loop.invariant.0
     (if_ok c.turn-back.result.1 _ _ c.in-Ok-false.is c.turn-back.ensures.turns (search rules))
 
 pub returns-in-Ok-false-clause-ends : goal.returns-in-Ok-false-clause-ends
 returns-in-Ok-false-clause-ends g c =
-    end_run_out g.O.Out g.S.StateStore c.args.most _ _ _ _ _
-    (turns_to_end g.O.Out g.S.StateStore _ _ _ _ _ _ _ _ c.loop.invariant.0
+    end_run_out g.O.Out g.R.Replica g.R.SavedReplica.saving c.args.most _ _ _ _ _
+    (turns_to_end g.O.Out g.R.Replica g.R.SavedReplica.saving _ _ _ _ _ _ _ _ c.loop.invariant.0
     (if_ok c.turn-back.result.1 _ _ c.in-Ok-false.is c.turn-back.ensures.turns (search rules)))
 
-pub returns-in-Ok-false-clause-filed : goal.returns-in-Ok-false-clause-filed
-returns-in-Ok-false-clause-filed g c = λ works.
+pub returns-in-Ok-false-clause-saved : goal.returns-in-Ok-false-clause-saved
+returns-in-Ok-false-clause-saved g c = λ works.
     let r = c.loop.invariant.1 works in
-    let s = on_ok c.turn-back.result.1 _ _ c.in-Ok-false.is (c.turn-back.ensures.filed r.0) in
-    (s.0, filed_then _ _ _ _ _ _ g.met.S.StateStore.preserved_further r.1 s.1)
+    let s = on_ok c.turn-back.result.1 _ _ c.in-Ok-false.is (c.turn-back.ensures.saved r.0) in
+    (s.0, stays_then g.R.SavedReplica.saving _ _ _ g.met.R.SavedReplica.keeps_further r.1 s.1)
 
 pub returns-in-Err-clause-failed : goal.returns-in-Err-clause-failed
 returns-in-Err-clause-failed g c = (
   taken_by c.loop.keeper.taker,
-  stand c.loop.keeper.owned c.loop.keeper.waiting c.loop.keeper.store (published c.loop.keeper.writer.inner)
+  stand c.loop.keeper.replica c.loop.keeper.waiting (published c.loop.keeper.writer.inner)
       c.loop.keeper.all_published c.loop.out,
   c.loop.invariant.0,
   if_err c.turn-back.result.1 _ _ c.in-Err.is c.turn-back.ensures.failed,

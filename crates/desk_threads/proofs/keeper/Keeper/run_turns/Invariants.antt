@@ -1,19 +1,19 @@
 use Rattle.std.proofs.Common.{◌≡◌, false}
 use Rattle.desk_mailbox.specs.Ends.{taken_by, IsSameTaker}
 use Rattle.desk_published.specs.Writer.{published}
-use Rattle.desk_threads.specs.Filed.{IsFiled}
 use Rattle.desk_threads.specs.Runs.{stand, RanInTurns}
+use Rattle.desk_threads.specs.Saving.{StaysSaved}
 use Rattle.desk_threads.proofs.keeper.Keeper.run_turns.Given as goal
 
 abbrev pub invariant-loop : goal.invariant-loop
 invariant-loop g l =
-    RanInTurns g.O.Out g.S.StateStore l.fn.most (taken_by l.fn.self.taker)
-    (stand l.fn.self.owned l.fn.self.waiting l.fn.self.store (published l.fn.self.writer.inner)
+    RanInTurns g.O.Out g.R.Replica g.R.SavedReplica.saving l.fn.most (taken_by l.fn.self.taker)
+    (stand l.fn.self.replica l.fn.self.waiting (published l.fn.self.writer.inner)
     l.fn.self.all_published l.fn.out)
     (taken_by l.keeper.taker)
-    (stand l.keeper.owned l.keeper.waiting l.keeper.store (published l.keeper.writer.inner)
+    (stand l.keeper.replica l.keeper.waiting (published l.keeper.writer.inner)
     l.keeper.all_published l.out)
     × (l.fn.self.stopped ≡ false → (l.keeper.stopped ≡ false)
-    × IsFiled g.S.StateStore l.fn.self.store l.keeper.store l.keeper.owned.node.saved)
+    × StaysSaved g.R.SavedReplica.saving l.fn.self.replica l.keeper.replica)
     × IsSameTaker l.fn.self.taker l.keeper.taker
     × (l.keeper.stopped ≡ l.fn.self.stopped)

@@ -1,78 +1,115 @@
-use Rattle.std.proofs.Common.{not, false, ℕ, List, ◌≡◌, ◌≢◌, ◌⊎◌, ◌∙◌, ap, sym, subst, MatchBool}
-use Rattle.std.specs.List.{AllZip}
+use Rattle.std.proofs.Common.{not, false, ℕ, List, ◌≡◌, ◌≢◌, ◌⊎◌, ◌∙◌, ap, subst, MatchBool}
 use mathlib.Core.List.{IsPrefix}
 use Rattle.desk_types.specs.Refusal.{IsStoreRefusal, HasStored}
+use Rattle.desk_types.specs.declared.command.Entry.{Entry}
+use Rattle.desk_types.specs.declared.owner.Owner.{Owner}
 use Rattle.desk_types.specs.declared.packet.Message.{Message}
 use Rattle.desk_types.specs.declared.refusal.Refusal.TheVariants as refusals
 use Rattle.desk_published.specs.Writer.{published}
-use Rattle.desk_log.specs.SavedValue.{SavedValue, committed_entries}
-use Rattle.desk_node.specs.NodeValue.{NodeValue}
-use Rattle.desk_threads.specs.OwnedValue.{with_one_refused, DoesItem}
-use Rattle.desk_published.specs.Writer.{EqualsPrefix}
-use Rattle.desk_threads.specs.ItemAnswers.{Answers, waiting_on}
-use Rattle.desk_threads.specs.Waiting.{HearsAll}
-use Rattle.desk_published.proofs.PrefixEquations.{front_goes_on}
-use Rattle.desk_threads.specs.Filed.{IsUnfiled}
-use Rattle.desk_threads.proofs.PublishedPrefixes.{begins, shown_front, where_true, where_false}
+use Rattle.desk_published.proofs.PrefixEquations.{is_front}
+use Rattle.desk_threads.specs.declared.answer.Answer.{Answer}
+use Rattle.desk_threads.specs.ItemAnswers.{waiting_on}
+use Rattle.desk_threads.specs.SavedItems.{DoesAndSaves, DoesAndFails}
+use Rattle.desk_threads.specs.Saving.{replica_history}
+use Rattle.desk_threads.proofs.Histories.{noted_on, before_publish, after_publish}
+use Rattle.desk_threads.proofs.PublishedPrefixes.{where_true, where_false}
 use Rattle.desk_threads.proofs.StoredAnswers.{stored_ok, stored_err, stored_after, no_less}
 use Rattle.desk_threads.proofs.ReportedAnswers.{reported_done, reported_waiting, reported_stopped, once_stopped}
 use Rattle.desk_threads.proofs.OutcomeAnswers.{item_done, none_if_ok, none_if_err, same_if_err, none_on_err}
-use Rattle.desk_threads.proofs.OutcomeAnswers.{always_on_err}
+use Rattle.desk_threads.proofs.OutcomeAnswers.{always_on_err, whole_done}
 use Rattle.desk_threads.proofs.keeper.Keeper.serve.Goals as goal
 use Rattle.desk_threads.proofs.keeper.Keeper.serve.Goals.{in-Ok, in-Err}
 
-pub publish-writer-requires : goal.publish-writer-requires
-publish-writer-requires g c =
-    let front = c.args.self.writer.noted in
-    let new = c.act_and_save-outcome.new.owned.node.saved in
-    let is : c.saved.result.now ≡ new = c.saved.ensures ∙ ap (λ (n : NodeValue). n.saved) c.node.ensures in
-    subst (λ (s : SavedValue). EqualsPrefix front (committed_entries s)) (sym is)
-    (front_goes_on front (committed_entries c.args.self.owned.node.saved) (committed_entries new) c.args.self.noted
-    (begins _ _ c.act_and_save-outcome.ensures.committed))
+pub publish_after-writer-requires-clause-past : goal.publish_after-writer-requires-clause-past
+publish_after-writer-requires-clause-past g c =
+    (before_publish g.R.SavedReplica.saving c.act_and_save-outcome.new.replica c.past_len.result
+    c.committed.result.now c.args.self.writer.noted c.past_len.ensures c.committed.ensures
+    (noted_on g.R.SavedReplica.saving c.args.self.replica c.act_and_save-outcome.new.replica c.args.self.writer.noted
+    c.act_and_save-outcome.ensures.same
+    (record { past_noted = c.args.self.past_noted; past_is = c.args.self.past_is; begins = c.args.self.noted }))).0
+
+pub publish_after-writer-requires-clause-noted : goal.publish_after-writer-requires-clause-noted
+publish_after-writer-requires-clause-noted g c =
+    (before_publish g.R.SavedReplica.saving c.act_and_save-outcome.new.replica c.past_len.result
+    c.committed.result.now c.args.self.writer.noted c.past_len.ensures c.committed.ensures
+    (noted_on g.R.SavedReplica.saving c.args.self.replica c.act_and_save-outcome.new.replica c.args.self.writer.noted
+    c.act_and_save-outcome.ensures.same
+    (record { past_noted = c.args.self.past_noted; past_is = c.args.self.past_is; begins = c.args.self.noted }))).1
 
 pub invariant_of-keeper : goal.invariant_of-keeper
 invariant_of-keeper g c =
     let done = c.act_and_save-outcome.ensures in
-    let new = c.act_and_save-outcome.new.owned.node.saved in
-    let is : c.saved.result.now ≡ new = c.saved.ensures ∙ ap (λ (n : NodeValue). n.saved) c.node.ensures in
-    let writer = c.publish-writer.result.0 in
+    let writer = c.publish_after-writer.result.0 in
+    let shown = published writer.inner in
+    let p = after_publish g.R.SavedReplica.saving c.act_and_save-outcome.new.replica c.past_len.result
+    c.committed.result.now
+    c.args.self.writer.noted c.publish_after-writer.result.0.noted c.past_len.ensures c.committed.ensures
+    (noted_on g.R.SavedReplica.saving c.args.self.replica c.act_and_save-outcome.new.replica c.args.self.writer.noted
+    c.act_and_save-outcome.ensures.same
+    (record { past_noted = c.args.self.past_noted; past_is = c.args.self.past_is; begins = c.args.self.noted }))
+    c.publish_after-writer.ensures.past c.publish_after-writer.ensures.noted in
     let stored : not c.goes_on_after-goes_on.result ≡ false → HasStored c.act_and_save-outcome.result =
     stored_after _ _ c.goes_on_after-goes_on.ensures in
-    let reported : not c.goes_on_after-goes_on.result ≡ false → MatchBool c.publish-writer.result.1
-    (published writer.inner ≡ committed_entries new) (published writer.inner ≢ committed_entries new) =
-    λ goes. subst (λ (s : SavedValue). MatchBool c.publish-writer.result.1
-    (published writer.inner ≡ committed_entries s) (published writer.inner ≢ committed_entries s)) is
-    (c.publish-writer.ensures.whole (no_less c.goes_on_after-goes_on.result goes)) in
+    let reported : not c.goes_on_after-goes_on.result ≡ false →
+    MatchBool c.publish_after-writer.result.1
+    (shown ≡ replica_history g.R.SavedReplica.saving c.act_and_save-outcome.new.replica writer.noted)
+    (shown ≢ replica_history g.R.SavedReplica.saving c.act_and_save-outcome.new.replica writer.noted) =
+    λ goes. subst (λ (l : List Entry). MatchBool c.publish_after-writer.result.1 (shown ≡ l) (shown ≢ l)) p.1
+    (c.publish_after-writer.ensures.whole (no_less c.goes_on_after-goes_on.result goes)) in
     record {
-      noted = subst (λ (s : SavedValue). EqualsPrefix writer.noted (committed_entries s)) is
-          c.publish-writer.ensures.noted;
-      shown = shown_front _ c.saved.result.now new is c.publish-writer.ensures.published;
-      domain_is = done.same.domain_is ∙ c.args.self.domain_is;
-      running = λ goes. (done.filed (stored goes)).running;
-      last = λ goes. (done.filed (stored goes)).last;
+      past_noted = p.0.past_noted;
+      past_is = p.0.past_is;
+      noted = p.0.begins;
+      shown = is_front shown _
+          (subst (λ (l : List Entry). IsPrefix shown l) p.1 c.publish_after-writer.ensures.published);
+      domain_is = ap (λ (o : Owner). o.domain) done.same.owner ∙ c.args.self.domain_is;
+      last = λ goes. (done.saved (stored goes)).0;
       whole = λ goes. where_true _ _ _ (reported goes);
       partial = λ goes. where_false _ _ _ (reported goes);
     }
 
-pub returns-clause-filed : goal.returns-clause-filed
-returns-clause-filed g c = elim c.match-outcome.branch [
-  | in-Ok w ↦ λ _. c.act_and_save-outcome.ensures.filed (stored_ok _ _ w.in-Ok.is)
-  | in-Err w ↦ λ h. c.act_and_save-outcome.ensures.filed (stored_err _ _ _ w.in-Err.is w.answer-is h)
+pub returns-clause-saved : goal.returns-clause-saved
+returns-clause-saved g c = elim c.match-outcome.branch [
+  | in-Ok w ↦ λ _. c.act_and_save-outcome.ensures.saved (stored_ok _ _ w.in-Ok.is)
+  | in-Err w ↦ λ h. c.act_and_save-outcome.ensures.saved (stored_err _ _ _ w.in-Err.is w.answer-is h)
 ]
 
 pub returns-clause-shown : goal.returns-clause-shown
 returns-clause-shown g c =
-    let is : c.saved.result.now ≡ c.act_and_save-outcome.new.owned.node.saved =
-    c.saved.ensures ∙ ap (λ (n : NodeValue). n.saved) c.node.ensures in
-    subst (λ (s : SavedValue). IsPrefix (published c.publish-writer.result.0.inner) (committed_entries s)) is
-    c.publish-writer.ensures.published
+    let p = after_publish g.R.SavedReplica.saving c.act_and_save-outcome.new.replica c.past_len.result
+    c.committed.result.now
+    c.args.self.writer.noted c.publish_after-writer.result.0.noted c.past_len.ensures c.committed.ensures
+    (noted_on g.R.SavedReplica.saving c.args.self.replica c.act_and_save-outcome.new.replica c.args.self.writer.noted
+    c.act_and_save-outcome.ensures.same
+    (record { past_noted = c.args.self.past_noted; past_is = c.args.self.past_is; begins = c.args.self.noted }))
+    c.publish_after-writer.ensures.past c.publish_after-writer.ensures.noted in
+    subst (λ (l : List Entry). IsPrefix (published c.publish_after-writer.result.0.inner) l) p.1
+    c.publish_after-writer.ensures.published
+
+pub returns-clause-whole : goal.returns-clause-whole
+returns-clause-whole g c =
+    let p = after_publish g.R.SavedReplica.saving c.act_and_save-outcome.new.replica c.past_len.result
+    c.committed.result.now
+    c.args.self.writer.noted c.publish_after-writer.result.0.noted c.past_len.ensures c.committed.ensures
+    (noted_on g.R.SavedReplica.saving c.args.self.replica c.act_and_save-outcome.new.replica c.args.self.writer.noted
+    c.act_and_save-outcome.ensures.same
+    (record { past_noted = c.args.self.past_noted; past_is = c.args.self.past_is; begins = c.args.self.noted }))
+    c.publish_after-writer.ensures.past c.publish_after-writer.ensures.noted in
+    elim c.match-outcome.branch [
+      | in-Ok w ↦
+          whole_done c.act_and_save-outcome.result _ c.match-outcome.answer c.publish_after-writer.result.1
+          c.goes_on_after-goes_on.result (published c.publish_after-writer.result.0.inner) _ _ w.in-Ok.is w.answer-is
+          c.goes_on_after-goes_on.ensures p.1 c.publish_after-writer.ensures.whole
+      | in-Err w ↦ none_if_ok c.match-outcome.answer _ _ w.answer-is
+    ]
 
 pub returns-clause-did : goal.returns-clause-did
 returns-clause-did g c = elim c.match-outcome.branch [
   | in-Ok w ↦
       item_done g.O.Out
-      (λ packets. DoesItem c.args.self.owned c.args.item packets c.act_and_save-outcome.new.owned)
-      c.act_and_save-outcome.result (λ step. step.packets.items) _ c.match-outcome.answer _
+      (λ packets answers. DoesAndSaves g.R.Replica g.R.SavedReplica.saving c.args.self.replica c.args.item packets
+      answers c.act_and_save-outcome.new.replica)
+      c.act_and_save-outcome.result (λ step. step.packets.items) (λ step. step.answers) _ c.match-outcome.answer _
       c.args.out.now w.hand_all.new.out c.match-outcome.out w.in-Ok.is w.answer-is w.out-is
       c.act_and_save-outcome.ensures.did w.hand_all.ensures
   | in-Err w ↦ none_if_ok c.match-outcome.answer _ _ w.answer-is
@@ -84,7 +121,7 @@ returns-clause-refused g c = elim c.match-outcome.branch [
   | in-Err w ↦
       same_if_err c.act_and_save-outcome.result c.match-outcome.answer _
       (λ r. r ≡ refusals.WantOfMemory →
-      c.act_and_save-outcome.new.owned ≡ with_one_refused c.args.self.owned)
+      g.R.Replica.refuses c.args.self.replica c.act_and_save-outcome.new.replica)
       w.in-Err.is w.answer-is c.act_and_save-outcome.ensures.refused
 ]
 
@@ -115,15 +152,14 @@ returns-clause-first g c = elim c.match-outcome.branch [
 pub returns-clause-reported : goal.returns-clause-reported
 returns-clause-reported g c = elim c.match-outcome.branch [
   | in-Ok w ↦
-      reported_done c.act_and_save-outcome.result (λ step. step.answers.items) _ c.match-outcome.answer _
-      (λ answers. Answers c.args.self.owned c.args.item answers)
-      (published c.publish-writer.result.0.inner) _ _ _ _ _ _ w.in-Ok.is w.answer-is
+      reported_done c.act_and_save-outcome.result (λ step. step.packets.items) (λ step. step.answers) _
+      c.match-outcome.answer _
+      (λ packets answers. DoesAndSaves g.R.Replica g.R.SavedReplica.saving c.args.self.replica c.args.item packets
+      answers c.act_and_save-outcome.new.replica)
+      (published c.publish_after-writer.result.0.inner) _ _ _ _ _ _ w.in-Ok.is w.answer-is
       c.goes_on_after-goes_on.ensures
       (c.stop_unless.ensures ∙ ap (waiting_on c.goes_on_after-goes_on.result) c.note.ensures)
-      c.act_and_save-outcome.ensures.answers
-      (subst (λ answers. AllZip (HearsAll answers) c.stop_unless.new.waiting w.hear.new.self)
-      w.of_node-answers.ensures w.hear.ensures)
-      w.waiting-is c.tell.ensures
+      c.act_and_save-outcome.ensures.did w.hear.ensures w.waiting-is c.tell.ensures
   | in-Err w ↦ none_if_ok c.match-outcome.answer _ _ w.answer-is
 ]
 
@@ -153,7 +189,7 @@ returns-clause-unpublished g c = elim c.match-outcome.branch [
   | in-Err w ↦
       once_stopped c.act_and_save-outcome.result c.match-outcome.answer _ _ _ w.in-Err.is w.answer-is
       c.goes_on_after-goes_on.ensures
-      (λ stops. ap (λ (p : _). published p.inner) (c.publish-writer.ensures.unwanted stops).0)
+      (λ stops. ap (λ (p : _). published p.inner) (c.publish_after-writer.ensures.unwanted stops).0)
 ]
 
 pub returns-clause-stops : goal.returns-clause-stops
@@ -169,17 +205,8 @@ returns-clause-made g c = elim c.match-outcome.branch [
   | in-Ok w ↦ none_if_err c.match-outcome.answer _ _ w.answer-is
   | in-Err w ↦
       same_if_err c.act_and_save-outcome.result c.match-outcome.answer _
-      (λ r. r ≡ refusals.StoreFault → (packets : List (ℕ × Message))
-      × DoesItem c.args.self.owned c.args.item packets c.act_and_save-outcome.new.owned)
+      (λ r. r ≡ refusals.StoreFault → (packets : List (ℕ × Message)) × (answers : List Answer)
+      × DoesAndFails g.R.Replica g.R.SavedReplica.saving c.args.self.replica c.args.item packets answers
+      c.act_and_save-outcome.new.replica)
       w.in-Err.is w.answer-is c.act_and_save-outcome.ensures.made
-]
-
-pub returns-clause-left : goal.returns-clause-left
-returns-clause-left g c = elim c.match-outcome.branch [
-  | in-Ok w ↦ none_if_err c.match-outcome.answer _ _ w.answer-is
-  | in-Err w ↦
-      same_if_err c.act_and_save-outcome.result c.match-outcome.answer _
-      (λ r. r ≡ refusals.StoreFault → IsUnfiled g.S.StateStore c.args.self.store c.act_and_save-outcome.new.store
-      c.args.self.owned.node.saved c.act_and_save-outcome.new.owned.node.saved)
-      w.in-Err.is w.answer-is c.act_and_save-outcome.ensures.left
 ]

@@ -1,23 +1,23 @@
 use Rattle.std.proofs.Common.{rules, ◌≡◌, ◌∙◌, ap, sym, subst, refl, [], ◌∷◌, inl, inr, not, is_some}
-use Rattle.desk_threads.specs.OwnedValue.{OwnedValue}
 use Rattle.desk_mailbox.specs.Ends.{taken_by, no_sender_left, IsSameTaker}
 use Rattle.desk_mailbox.specs.declared.item.Item.TheVariants as items
 use Rattle.desk_published.specs.Writer.{published}
 use Rattle.desk_threads.specs.Runs.{stand}
-use Rattle.desk_threads.proofs.KeeperRuns.{filed_same, if_some}
+use Rattle.desk_threads.specs.Saving.{StaysSaved}
+use Rattle.desk_threads.proofs.KeeperRuns.{stays_same, if_some}
 use Rattle.desk_threads.proofs.KeeperTurns.{turns_stopped, turns_one, turns_end, took_last, refused_last}
-use Rattle.desk_threads.proofs.KeeperTurns.{stand_same, reported_same, took_stop}
-use Rattle.desk_threads.proofs.TurnSteps.{if_ok_map, if_ok_each, if_ok_both, if_err_map}
+use Rattle.desk_threads.proofs.KeeperTurns.{stand_same, reported_same, took_stop, turn_stays}
+use Rattle.desk_threads.proofs.TurnSteps.{if_ok_map, if_ok_each, if_ok_both, if_err_map, on_ok_both}
 use Rattle.desk_threads.proofs.keeper.Keeper.turn.Goals as goal
 
 pub returns-in-None-clause-turns : goal.returns-in-None-clause-turns
 returns-in-None-clause-turns g c = λ _.
     let taken : taken_by c.take-keeper.result.0.taker ≡ taken_by c.args.self.taker = search rules in
-    turns_stopped g.O.Out g.S.StateStore _ _ _ _ _ _ (ap taken_by c.refuse-keeper.ensures.taker ∙ taken)
+    turns_stopped g.O.Out g.R.Replica g.R.SavedReplica.saving _ _ _ _ _ _
+    (ap taken_by c.refuse-keeper.ensures.taker ∙ taken)
     (ap no_sender_left c.refuse-keeper.ensures.taker ∙ c.take-keeper.ensures.left
     ∙ ap (λ o. not (is_some o)) c.in-None.is) (record {
-      owned = c.refuse-keeper.ensures.owned ∙ c.take-keeper.ensures.owned;
-      store = c.refuse-keeper.ensures.store ∙ c.take-keeper.ensures.store;
+      replica = c.refuse-keeper.ensures.replica ∙ c.take-keeper.ensures.replica;
       out = refl;
       published = ap (λ (p : _). published p.inner)
           (c.refuse-keeper.ensures.writer ∙ c.take-keeper.ensures.writer);
@@ -27,13 +27,12 @@ returns-in-None-clause-turns g c = λ _.
           c.refuse-keeper.ensures.reported;
     })
 
-pub returns-in-None-clause-filed : goal.returns-in-None-clause-filed
-returns-in-None-clause-filed g c = λ works. (
+pub returns-in-None-clause-saved : goal.returns-in-None-clause-saved
+returns-in-None-clause-saved g c = λ works. (
   c.refuse-keeper.ensures.stopped ∙ c.take-keeper.ensures.stopped ∙ works,
-  filed_same g.S.StateStore c.args.self.store _ c.args.self.owned.node.saved _ g.met.S.StateStore.preserved_still
-      (c.refuse-keeper.ensures.store ∙ c.take-keeper.ensures.store)
-      (ap (λ (k : OwnedValue). k.node.saved) (c.refuse-keeper.ensures.owned ∙ c.take-keeper.ensures.owned))
-      (c.args.self.running works) (c.args.self.last works),
+  stays_same g.R.SavedReplica.saving c.args.self.replica _
+      (λ r. g.met.R.SavedReplica.followed_keeps r r (g.met.R.Replica.follows_still r))
+      (c.refuse-keeper.ensures.replica ∙ c.take-keeper.ensures.replica) (c.args.self.last works),
 )
 
 pub returns-in-None-clause-same : goal.returns-in-None-clause-same
@@ -43,25 +42,27 @@ returns-in-None-clause-same g c =
 pub returns-else-keeper-clause-went : goal.returns-else-keeper-clause-went
 returns-else-keeper-clause-went g c =
     if_ok_map c.serve_turn.result.1 _ _
-    (λ d more yes. turns_one g.O.Out g.S.StateStore _ _ (taken_by c.take-keeper.result.0.taker) _ c.in-Some.sent _
-    (stand c.take-keeper.result.0.owned c.take-keeper.result.0.waiting c.take-keeper.result.0.store
+    (λ d more yes. turns_one g.O.Out g.R.Replica g.R.SavedReplica.saving _ _
+    (taken_by c.take-keeper.result.0.taker) _ c.in-Some.sent _
+    (stand c.take-keeper.result.0.replica c.take-keeper.result.0.waiting
     (published c.take-keeper.result.0.writer.inner) c.take-keeper.result.0.all_published c.args.out.now) _
     (if_some c.take-keeper.result.1 _ _ _ c.in-Some.is c.take-keeper.ensures.took)
-    (stand_same _ _ _ _ _ _ _ _ _ _ _ c.take-keeper.ensures.owned c.take-keeper.ensures.waiting
-    c.take-keeper.ensures.store (ap (λ (p : _). published p.inner) c.take-keeper.ensures.writer)
+    (stand_same _ _ _ _ _ _ _ _ _ c.take-keeper.ensures.replica c.take-keeper.ensures.waiting
+    (ap (λ (p : _). published p.inner) c.take-keeper.ensures.writer)
     c.take-keeper.ensures.all_published) d)
     c.serve_turn.ensures.did
 
 pub returns-else-keeper-clause-turns : goal.returns-else-keeper-clause-turns
 returns-else-keeper-clause-turns g c =
     if_ok_both c.serve_turn.result.1 _ _ _
-    (λ d more h stop. turns_end g.O.Out g.S.StateStore _ _ _ _ _ _
-    (turns_one g.O.Out g.S.StateStore _ _ (taken_by c.take-keeper.result.0.taker) _ c.in-Some.sent _
-    (stand c.take-keeper.result.0.owned c.take-keeper.result.0.waiting c.take-keeper.result.0.store
+    (λ d more h stop. turns_end g.O.Out g.R.Replica g.R.SavedReplica.saving _ _ _ _ _ _
+    (turns_one g.O.Out g.R.Replica g.R.SavedReplica.saving _ _
+    (taken_by c.take-keeper.result.0.taker) _ c.in-Some.sent _
+    (stand c.take-keeper.result.0.replica c.take-keeper.result.0.waiting
     (published c.take-keeper.result.0.writer.inner) c.take-keeper.result.0.all_published c.args.out.now) _
     (if_some c.take-keeper.result.1 _ _ _ c.in-Some.is c.take-keeper.ensures.took)
-    (stand_same _ _ _ _ _ _ _ _ _ _ _ c.take-keeper.ensures.owned c.take-keeper.ensures.waiting
-    c.take-keeper.ensures.store (ap (λ (p : _). published p.inner) c.take-keeper.ensures.writer)
+    (stand_same _ _ _ _ _ _ _ _ _ c.take-keeper.ensures.replica c.take-keeper.ensures.waiting
+    (ap (λ (p : _). published p.inner) c.take-keeper.ensures.writer)
     c.take-keeper.ensures.all_published) d)
     (took_stop _ (taken_by c.take-keeper.result.0.taker) _ c.in-Some.sent
     (if_some c.take-keeper.result.1 _ _ _ c.in-Some.is c.take-keeper.ensures.took) (h stop)))
@@ -82,14 +83,15 @@ returns-in-None-clause-ends g c = λ _.
 pub returns-else-keeper-clause-failed : goal.returns-else-keeper-clause-failed
 returns-else-keeper-clause-failed g c =
     if_err_map c.serve_turn.result.1 _ _ _
-    (λ d fault is. took_last g.S.StateStore _ fault _ (taken_by c.take-keeper.result.0.taker) _ c.in-Some.sent _
-    (stand c.take-keeper.result.0.owned c.take-keeper.result.0.waiting c.take-keeper.result.0.store
+    (λ d fault is. took_last g.R.Replica g.R.SavedReplica.saving _ fault _
+    (taken_by c.take-keeper.result.0.taker) _ c.in-Some.sent _
+    (stand c.take-keeper.result.0.replica c.take-keeper.result.0.waiting
     (published c.take-keeper.result.0.writer.inner) c.take-keeper.result.0.all_published c.args.out.now)
-    (stand c.serve_turn.result.0.owned c.serve_turn.result.0.waiting c.serve_turn.result.0.store
+    (stand c.serve_turn.result.0.replica c.serve_turn.result.0.waiting
     (published c.serve_turn.result.0.writer.inner) c.serve_turn.result.0.all_published c.serve_turn.new.out)
     (if_some c.take-keeper.result.1 _ _ _ c.in-Some.is c.take-keeper.ensures.took)
-    (stand_same _ _ _ _ _ _ _ _ _ _ _ c.take-keeper.ensures.owned c.take-keeper.ensures.waiting
-    c.take-keeper.ensures.store (ap (λ (p : _). published p.inner) c.take-keeper.ensures.writer)
+    (stand_same _ _ _ _ _ _ _ _ _ c.take-keeper.ensures.replica c.take-keeper.ensures.waiting
+    (ap (λ (p : _). published p.inner) c.take-keeper.ensures.writer)
     c.take-keeper.ensures.all_published)
     d is)
     c.serve_turn.ensures.failed c.serve_turn.ensures.fault
@@ -98,14 +100,26 @@ pub returns-then-keeper-clause-failed : goal.returns-then-keeper-clause-failed
 returns-then-keeper-clause-failed g c =
     let keeper = c.refuse-keeper-then-keeper.result in
     let is = c.refuse-keeper-then-keeper.ensures in
-    refused_last g.S.StateStore c.args.most _ _ c.in-Some.sent
-    (stand c.args.self.owned c.args.self.waiting c.args.self.store (published c.args.self.writer.inner)
+    refused_last g.R.Replica g.R.SavedReplica.saving c.args.most _ _ c.in-Some.sent
+    (stand c.args.self.replica c.args.self.waiting (published c.args.self.writer.inner)
     c.args.self.all_published c.args.out.now)
-    (stand keeper.owned keeper.waiting keeper.store (published keeper.writer.inner) keeper.all_published
+    (stand keeper.replica keeper.waiting (published keeper.writer.inner) keeper.all_published
     c.args.out.now)
     c.requires.positive
     (ap taken_by is.taker ∙ if_some c.take-keeper.result.1 _ _ _ c.in-Some.is c.take-keeper.ensures.took)
-    (is.owned ∙ c.take-keeper.ensures.owned) (is.store ∙ c.take-keeper.ensures.store) refl
+    (is.replica ∙ c.take-keeper.ensures.replica) refl
     (ap (λ (p : _). published p.inner) (is.writer ∙ c.take-keeper.ensures.writer))
     (reported_same _ _ (c.in-Some.sent.item ∷ []) _ _ _
     (ap (λ (p : _). published p.inner) c.take-keeper.ensures.writer) c.take-keeper.ensures.waiting is.reported)
+
+pub returns-else-keeper-clause-saved : goal.returns-else-keeper-clause-saved
+returns-else-keeper-clause-saved g c = λ works.
+    on_ok_both c.serve_turn.result.1 _ _ _
+    (λ took still. (
+      still,
+      subst (λ r. StaysSaved g.R.SavedReplica.saving r c.serve_turn.result.0.replica) c.take-keeper.ensures.replica
+          (turn_stays g.O.Out g.R.Replica g.R.SavedReplica.saving g.met.R.SavedReplica.saved_last
+          g.met.R.SavedReplica.keeps_further g.met.R.SavedReplica.followed_keeps g.met.R.SavedReplica.saved_keeps
+          c.args.most _ _ _ took.2),
+    ))
+    c.serve_turn.ensures.did c.serve_turn.ensures.running
