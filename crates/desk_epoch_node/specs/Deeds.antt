@@ -20,7 +20,7 @@ use Rattle.desk_types.specs.declared.epoch_packet.Purpose.TheVariants as purpose
 use Rattle.desk_epoch_node.specs.EpochValue.{EpochValue, has_next, reaches_end}
 use Rattle.desk_epoch_node.specs.PastRows.{one_log_admission}
 
--- The node of the epoch meets a request, unless its log has reached the epoch's end. Then the request is kept for the
+-- The node of the epoch meets a request, unless its log has reached the epoch's end. Then the request is held for the
 -- next epoch, and refused where there is none.
 abbrev pub deed_here : EpochValue → Entry → Deed
 deed_here e entry =
@@ -55,7 +55,7 @@ is_other e from = nat_lt from e.node.n && not (from == e.node.id)
 abbrev pub asks_other : EpochValue → ℕ → Deed
 asks_other e from = if is_other e from then Ask from else Ignore
 
--- Another node that lacks entries after a place is told the log of a past epoch.
+-- Another node that lacks entries after a place is sent the log of a past epoch.
 abbrev pub telling : EpochValue → ℕ → Message → Deed
 telling e epoch (GetState from view base) = if is_other e from then Tell from epoch base else Ignore
 telling e epoch packet = Ignore
@@ -65,7 +65,7 @@ abbrev pub taking : Message → Deed
 taking (NewState from view base commit entries) = Take base entries
 taking packet = Ignore
 
--- A packet of another epoch than the node's makes it ask. Who asks for a past epoch is told.
+-- A packet of another epoch than the node's makes it ask. Who asks for a past epoch is sent its log.
 abbrev pub packet_deed : EpochValue → Purpose → ℕ → Message → Deed
 packet_deed e purposes.Step epoch packet =
     if epoch == e.epoch then Own (events.Packet packet) else asks_other e (sender packet)

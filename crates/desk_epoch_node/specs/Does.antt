@@ -47,7 +47,7 @@ next_node node = node_in_view node.domain node.id node.n (next_view node)
 abbrev pub next_packets : NodeValue → List (ℕ × Message)
 next_packets node = view_requests node.id node.n 0 (next_view node)
 
--- The node has a log more behind it, which is that of its epoch, and begins the next.
+-- The node has one more past log, which is that of its epoch, and begins the next.
 pub record BeginsAfter (past log : List Entry) (old new : EpochValue) (packets : List (ℕ × Message)) : Type 0 where
   pub epoch_is : new.epoch ≡ old.epoch + 1
   pub past_is : StandFor (past ++ log) new.past
@@ -80,7 +80,7 @@ abbrev pub IsOwn : EpochValue → Event → EpochValue → EpochStep → Type 0
 IsOwn old event new (steps.Own step) = DoesOwn old event new step.packets.items step.answers.items
 IsOwn old event new step = ⊥
 
--- The node begins the next epoch after a log that it was told.
+-- The node begins the next epoch after a log that it was sent.
 abbrev pub IsBegun : List Entry → List Entry → EpochValue → EpochValue → EpochStep → Type 0
 IsBegun past whole old new (steps.Began log packets) = (log ≡ whole) × BeginsAfter past whole old new packets.items
 IsBegun past whole old new step = ⊥

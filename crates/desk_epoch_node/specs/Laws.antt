@@ -71,7 +71,7 @@ abbrev pub BeginningsKeep : Type 0
 BeginningsKeep = (past : List Entry) (old new : EpochValue) (packets : List (ℕ × Message)) →
     BeginsAfter past (committed_cut old) old new packets → KeepsHistory past old new
 
--- Where what a node has committed is the beginning of its epoch's log, that log's entries behind it make the log whole.
+-- Where what a node has committed is the beginning of its epoch's log, that log's entries after it make the log whole.
 abbrev pub TellingServes : Type 0
 TellingServes = (e : EpochValue) (log : List Entry) → IsSaved e.node.saved → has_next e ≡ true →
     length log ≡ e.most → IsLogPrefix (committed_entries e.node.saved) log →

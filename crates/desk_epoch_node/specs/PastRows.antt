@@ -20,7 +20,7 @@ has_room log = not (length log == LOG_ENTRIES)
 abbrev pub past_row_at : List Entry → ℕ → PastRow
 past_row_at past place = record { number = number_at past place; place = place }
 
--- what past logs are kept as: a row for each client, and how many entries they are
+-- what past logs are stored as: a row for each client, and how many entries they are
 pub record PastValue : Type 0 where
   pub rows : List (ℕ × PastRow)
   pub length : ℕ

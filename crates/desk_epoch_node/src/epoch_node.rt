@@ -19,7 +19,7 @@ pub struct EpochNode {
     pub(crate) node: Node,
 }
 
-// It is written out, so that a caller does not prove again how each part is dropped.
+// Written out, so that callers need not prove each part's drop.
 impl Drop for EpochNode {
     fn drop(self) {
         let EpochNode {
@@ -79,7 +79,7 @@ impl EpochNode {
     }
 
     /// How many entries of the epoch, up to its end, the node has committed.
-    pub(crate) fn committed(&self) -> u64
+    pub fn committed(&self) -> u64
         ensures { result ≡ length (committed_cut self.now) }
     {
         self.node.saved().commit().min(self.most)

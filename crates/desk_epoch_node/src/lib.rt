@@ -34,6 +34,6 @@ pub fn laws()
     // What was committed in all epochs stays committed, whatever comes to the node, and where it begins the next.
     ensures steps_keep { StepsKeep }
     ensures beginnings_keep { BeginningsKeep }
-    // Who asks for what it has not committed, and is told the log of its epoch, has that log whole.
+    // Who asks for what it has not committed, and is sent the log of its epoch, has that log whole.
     ensures telling { TellingServes }
 {}

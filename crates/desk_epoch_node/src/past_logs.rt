@@ -20,7 +20,7 @@ pub struct PastLogs {
     length: u64,
 }
 
-// It is written out, so that a caller does not prove again how each part is dropped.
+// Written out, so that callers need not prove each part's drop.
 impl Drop for PastLogs {
     fn drop(self) {
         let PastLogs { rows: _, length: _ } = self;

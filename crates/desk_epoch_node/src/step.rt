@@ -31,13 +31,13 @@ pub enum EpochStep {
         to: u8,
         packet: Packet,
     },
-    /// A node is to be told the log of a past epoch after a place.
+    /// A node is to be sent the log of a past epoch after a place.
     Tell {
         to: u8,
         epoch: u64,
         base: u64,
     },
-    /// The node was told the whole log of its epoch, and began the next, in which it sends these packets. The log has
+    /// The node was sent the whole log of its epoch, and began the next, in which it sends these packets. The log has
     /// to be saved before they are sent.
     Began {
         log: Log,

@@ -1,4 +1,4 @@
-//! What a node is told that lacks entries of a past epoch.
+//! What is sent to a node that lacks entries of a past epoch.
 
 ghost use Rattle.std.specs.Prelude.{◌≡◌, IfOk};
 ghost use Rattle.desk_epoch_node.specs.Does.{past_log_packet};

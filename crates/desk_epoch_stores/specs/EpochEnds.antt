@@ -3,6 +3,6 @@ use Rattle.std.specs.Prelude.{List, length}
 use Rattle.desk_types.specs.declared.command.Entry.{Entry}
 use Rattle.desk_log.specs.SavedValue.{SavedValue}
 
--- what is saved of an epoch whose whole log was told: all of it is committed. No node acts in that epoch any more
+-- what is saved of an epoch whose whole log was sent: all of it is committed. No node acts in that epoch any more
 abbrev pub reported_saved : List Entry → SavedValue
 reported_saved log = record { view = 0; normal = 0; log = log; commit = length log }

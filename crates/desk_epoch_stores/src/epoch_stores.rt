@@ -15,8 +15,8 @@ pub trait EpochStores {
     /// The store of the epoch may be found with this state as the one that was saved last.
     ghost may_hold: { Self → ℕ → SavedValue → Type 0 };
 
-    /// Opens the store of an epoch, counted from 0. Err is 40 where memory is refused. It is 41 where the store fails,
-    /// and 45 where the store is missing or another node's; then the node cannot go on.
+    /// Opens the store of an epoch, counted from 0. Err is `WantOfMemory` where memory is refused. It is `StoreFault`
+    /// where the store fails, and `WrongFile` where the store is missing or another node's; then the node cannot go on.
     fn open(&mut self, epoch: u64) -> Result<Self::Store, Refusal>
         ensures running { IfOk result (λ store. Self.Store.stopped store ≡ false) }
         ensures held { IfOk result (λ store. may_hold self.old epoch (Self.Store.last store)) }

@@ -25,7 +25,7 @@ pub struct NodeStores<T: EpochStores> {
     pub ghost ready: { ForSome next (λ store. T.Store.stopped store ≡ false) },
 }
 
-// It is written out, so that a caller does not prove again how each part is dropped.
+// Written out, so that callers need not prove each part's drop.
 impl<T: EpochStores + Drop> Drop for NodeStores<T> {
     fn drop(self) {
         let NodeStores {
@@ -37,9 +37,11 @@ impl<T: EpochStores + Drop> Drop for NodeStores<T> {
 }
 
 impl<T: EpochStores> NodeStores<T> {
-    /// The store of an epoch, with what opens those of others.
+    /// The store of an epoch, with what opens those of others, of which none is open.
     pub fn new(stores: T, current: T::Store) -> NodeStores<T>
         ensures current { result.current ≡ current }
+        ensures stores { result.stores ≡ stores }
+        ensures next { result.next ≡ None }
     {
         NodeStores {
             stores,
@@ -55,8 +57,8 @@ impl<T: EpochStores> NodeStores<T> {
         self.next.is_some()
     }
 
-    /// Opens the store of the epoch after that of the node, where it is not open. Where memory is refused (40) nothing
-    /// changes, and it may be tried again.
+    /// Opens the store of the epoch after that of the node, where it is not open. Where memory is refused
+    /// (`WantOfMemory`) nothing changes, and it may be tried again.
     pub fn prepare(&mut self, node: &EpochNode) -> Result<(), Refusal>
         ensures current { self.new.current ≡ self.old.current }
         ensures ready { OnOk result (is_some self.new.next ≡ true) }
@@ -110,8 +112,8 @@ impl<T: EpochStores> NodeStores<T> {
 
     /// Begins the next epoch where the node has committed the end of its own, there is one more, and its store is open;
     /// its first state is saved there. Ok is the node of the epoch that ended, with what is to be sent first in the new
-    /// one. Err is 40 where memory is refused, and then nothing changes. It is 41 where the save failed; then nothing
-    /// may be sent in the new epoch, which a start finds as one that has not begun.
+    /// one. Err is `WantOfMemory` where memory is refused, and then nothing changes. It is `StoreFault` where the save
+    /// failed; then nothing may be sent in the new epoch, which a start finds as one that has not begun.
     pub fn begin_next(&mut self, node: &mut EpochNode) -> Result<Option<Ended>, Refusal>
         requires saved { T.Store.last self.old.current ≡ node.old.node.saved }
         ensures begun { IfOk result (λ ended. MatchOption ended ((node.new ≡ node.old) × (self.new ≡ self.old))
@@ -124,6 +126,9 @@ impl<T: EpochStores> NodeStores<T> {
         ensures refused { IfErr result (λ r. r ≡ refusals.WantOfMemory →
             (node.new ≡ node.old) × (self.new ≡ self.old)) }
         ensures left { OnErr result (self.new.current ≡ self.old.current) }
+        ensures unsaved { IfErr result (λ r. r ≡ refusals.StoreFault → (packets : List _)
+            × ((past : List AnEntry) → StandFor past node.old.past →
+            BeginsAfter past (committed_cut node.old) node.old node.new packets)) }
         ensures fault { IfErr result (λ r. (r ≡ refusals.WantOfMemory) ⊎ (r ≡ refusals.StoreFault)) }
     {
         if !self.is_ready() {
@@ -147,8 +152,9 @@ impl<T: EpochStores> NodeStores<T> {
         }
     }
 
-    /// Saves the log of an epoch that the node was told, and then its first state in the next, which it has begun. Ok
-    /// is the store of the epoch that ended. Where it fails (41) nothing may be sent.
+    /// Saves the log of an epoch that the node was given, and then its first state in the next, which it has begun. Ok
+    /// is the store of the epoch that ended. Where it fails (`StoreFault`) nothing may be sent; the store of the epoch
+    /// that ended is as its failed save leaves it, or holds the log.
     pub fn begin_with_rest(
         &mut self,
         node: &EpochNode,
@@ -163,6 +169,9 @@ impl<T: EpochStores> NodeStores<T> {
             × T.Store.keeps self.old.current store) }
         ensures last { OnOk result (T.Store.last self.new.current ≡ node.now.node.saved) }
         ensures running { OnOk result (T.Store.stopped self.new.current ≡ false) }
+        ensures failed { OnErr result (T.Store.leaves self.old.current reported.now self.new.current
+            ⊎ ((T.Store.last self.new.current ≡ reported.now)
+            × T.Store.keeps self.old.current self.new.current)) }
         ensures fault { IfErr result (λ r. r ≡ refusals.StoreFault) }
     {
         self.save(reported, known)?;
@@ -170,7 +179,7 @@ impl<T: EpochStores> NodeStores<T> {
     }
 }
 
-/// What is saved of an epoch whose whole log was told: all of it is committed.
+/// What is saved of an epoch whose whole log was sent: all of it is committed.
 pub fn reported_state(log: Log) -> Saved
     ensures { result ≡ reported_saved log }
 {

@@ -17,7 +17,7 @@ use desk_types::limits::LAST_PLACE;
 use desk_types::{Entry, Owner, Refusal};
 use std::alloc::Global;
 
-/// An epoch whose store is open, with the state that was saved last there, and what is kept of the logs of the epochs
+/// An epoch whose store is open, with the state that was saved last there, and what is held of the logs of the epochs
 /// before it. An epoch ends after so many entries, `most`.
 pub struct OpenedEpoch<T: EpochStores> {
     epoch: u64,
@@ -30,7 +30,7 @@ pub struct OpenedEpoch<T: EpochStores> {
     pub ghost last: { T.Store.last store ≡ saved },
 }
 
-// It is written out, so that a caller does not prove again how each part is dropped.
+// Written out, so that callers need not prove each part's drop.
 impl<T: EpochStores> Drop for OpenedEpoch<T> {
     fn drop(self) {
         let OpenedEpoch {
@@ -127,7 +127,7 @@ impl<T: EpochStores> OpenedEpoch<T> {
         OpenedEpoch::open(stores, epoch, past, most)
     }
 
-    /// Opens epochs from the first on, up to the first that is not over. What is kept of past logs are rows of the logs
+    /// Opens epochs from the first on, up to the first that is not over. What is held of past logs are rows of the logs
     /// that the stores before may hold.
     pub fn current(alloc: Global, stores: &mut T, most: u64) -> Result<OpenedEpoch<T>, Refusal>
         requires least { 1 ≤ most }

@@ -2,4 +2,5 @@
 
 mod epochs;
 mod headers;
+mod replicas;
 mod stores;

@@ -1,0 +1,5 @@
+pub mod FollowedSteps
+pub mod KnownEntries
+pub mod SavedFronts
+pub mod UntakenLogs
+pub mod ReplicaSteps

@@ -1,0 +1,78 @@
+-- What an item makes of a member.
+use Rattle.std.specs.Prelude.{◌≡◌, ℕ, Bool, true, false, not, ◌&&◌, ◌||◌, ◌==◌, if◌then◌else◌, List, map}
+use Rattle.desk_types.specs.declared.command.Entry.{Entry}
+use Rattle.desk_types.specs.declared.epoch_packet.Purpose.{Purpose}
+use Rattle.desk_types.specs.declared.epoch_packet.Purpose.TheVariants as purposes
+use Rattle.desk_types.specs.Packet.{sender}
+use Rattle.desk_log.specs.Quorum.{primary}
+use Rattle.desk_epoch_node.specs.declared.deed.Deed.{Deed}
+use Rattle.desk_epoch_node.specs.declared.deed.Deed.TheVariants.{Ignore}
+use Rattle.desk_epoch_node.specs.declared.event.EpochEvent.{EpochEvent}
+use Rattle.desk_epoch_node.specs.declared.event.EpochEvent.TheVariants as comes
+use Rattle.desk_epoch_node.specs.declared.step.EpochStep.{EpochStep}
+use Rattle.desk_epoch_node.specs.declared.step.EpochStep.TheVariants as steps
+use Rattle.desk_epoch_node.specs.Deeds.{deed}
+use Rattle.desk_epoch_node.specs.Does.{DoesDeed}
+use Rattle.desk_epoch_node.specs.EpochValue.{EpochValue}
+use Rattle.desk_epoch_replica.specs.declared.item.EpochItem.{EpochItem}
+use Rattle.desk_epoch_replica.specs.declared.item.EpochItem.TheVariants as items
+use Rattle.desk_epoch_replica.specs.declared.limits.TheConstants.{ASK_TICKS, SUSPECT_TICKS}
+use Rattle.desk_epoch_replica.specs.MemberValue.{MemberValue, one_more_up_to, member_suspects}
+
+-- whether a packet follows the rules of its epoch
+abbrev pub is_by_rules : Purpose → Bool
+is_by_rules purposes.Step = true
+is_by_rules purpose = false
+
+-- whether a packet tells a log
+abbrev pub is_tell : Purpose → Bool
+is_tell purposes.Tell = true
+is_tell purpose = false
+
+-- the event that a tick is
+abbrev pub event_of_tick : Bool → EpochEvent
+event_of_tick late = if late then comes.Suspect else comes.Resend
+
+-- What an item asks of the node, whose past logs are these entries. A log that it is told is dropped where the member
+-- takes none.
+abbrev pub item_deed : List Entry → Bool → MemberValue → EpochItem → Deed
+item_deed past takes m (items.Request entry) = deed past m.node (comes.Request entry)
+item_deed past takes m (items.Packet p) =
+    if not takes && is_tell p.purpose then Ignore else deed past m.node (comes.Packet p)
+item_deed past takes m items.Tick = deed past m.node (event_of_tick (member_suspects m))
+
+-- whether it is a packet by the rules of the node's epoch, of the primary of the view that the node has then
+abbrev pub hears_primary : EpochValue → Purpose → ℕ → ℕ → Bool
+hears_primary e purpose epoch from =
+    is_by_rules purpose && (epoch == e.epoch) && (from == primary e.node.n e.node.saved.view)
+
+-- whether the node began an epoch
+abbrev pub begins_epoch : EpochStep → Bool
+begins_epoch (steps.Began log packets) = true
+begins_epoch made = false
+
+-- The ticks are counted again from a suspicion, from a packet of the primary, and from an epoch's beginning.
+abbrev pub ticks_after : MemberValue → EpochItem → EpochStep → EpochValue → ℕ
+ticks_after m (items.Request entry) made e = m.ticks
+ticks_after m (items.Packet p) made e =
+    if begins_epoch made || hears_primary e p.purpose p.epoch (sender p.packet) then 0 else m.ticks
+ticks_after m items.Tick made e = if member_suspects m then 0 else one_more_up_to SUSPECT_TICKS m.ticks
+
+-- the ticks since the member last asked for a log
+abbrev pub ask_ticks_at : ℕ → EpochItem → ℕ
+ask_ticks_at ticks items.Tick = one_more_up_to ASK_TICKS ticks
+ask_ticks_at ticks item = ticks
+
+-- and since each node was last told one
+abbrev pub tell_ticks_at : List ℕ → EpochItem → List ℕ
+tell_ticks_at ticks items.Tick = map (one_more_up_to ASK_TICKS) ticks
+tell_ticks_at ticks item = ticks
+
+-- The member's node, whose past logs are these entries, does what the item asks, and the ticks are counted.
+pub record MemberMeets (past : List Entry) (takes : Bool) (old : MemberValue) (item : EpochItem) (made : EpochStep)
+    (new : MemberValue) : Type 0 where
+  pub does : DoesDeed past (item_deed past takes old item) old.node new.node made
+  pub ticks_are : new.ticks ≡ ticks_after old item made new.node
+  pub ask_ticks_are : new.ask_ticks ≡ ask_ticks_at old.ask_ticks item
+  pub tell_ticks_are : new.tell_ticks ≡ tell_ticks_at old.tell_ticks item
+  pub refused_is : new.refused ≡ old.refused

@@ -1,0 +1,26 @@
+-- A replica over epochs as its callers see it.
+use Rattle.std.specs.Prelude.{◌≡◌, Bool, not, ◌&&◌, Option}
+use Rattle.std.specs.Option.{is_some}
+use Rattle.desk_log.specs.SavedValue.{SavedValue}
+use Rattle.desk_epoch_replica.specs.MemberValue.{MemberValue}
+
+-- A member; what opens the stores of epochs, the store of the member's epoch, and the open one of the next; the state
+-- of the epoch before, whose log the member was told, as long as not all of it is published; and whether that state
+-- and the first one of the member's epoch are yet to be saved.
+pub record ReplicaValue (T S : Type 0) : Type 0 where
+  pub member : MemberValue
+  pub stores : T
+  pub current : S
+  pub next : Option S
+  pub reported : Option SavedValue
+  pub unsaved : Bool
+
+-- whether it takes a log that it is told: the next store is open, and the log before is published
+abbrev pub takes_logs : {T S : Type 0} → ReplicaValue T S → Bool
+takes_logs r = is_some r.next && not (is_some r.reported)
+
+-- Its stores are as they were.
+pub record HasSameStores {T S : Type 0} (old new : ReplicaValue T S) : Type 0 where
+  pub stores_are : new.stores ≡ old.stores
+  pub current_is : new.current ≡ old.current
+  pub next_is : new.next ≡ old.next

@@ -1,0 +1,270 @@
+//! A member of a group that goes on over epochs, with its stores.
+
+ghost use Rattle.std.specs.Prelude.{◌≡◌, ◌<◌, ◌+◌, ◌⊎◌, List, false, length, None, Some, IfOk, IfErr};
+ghost use Rattle.std.specs.Prelude.{IfSome, MatchOption, MatchResult, OnOk, OnErr, true};
+ghost use Rattle.std.specs.Option.{is_some};
+ghost use Rattle.desk_types.specs.Group.{IsGroup};
+ghost use Rattle.desk_types.specs.declared.command.Entry.{Entry as AnEntry};
+ghost use Rattle.desk_types.specs.declared.refusal.Refusal.TheVariants as refusals;
+ghost use Rattle.desk_node.specs.NodeValue.{node_from};
+ghost use Rattle.desk_epoch_node.specs.Does.{BeginsAfter};
+ghost use Rattle.desk_epoch_node.specs.PastRows.{StandFor};
+ghost use Rattle.desk_epoch_replica.specs.Follows.{ReplicaDoes, ReplicaFollows, ReplicaRefuses};
+ghost use Rattle.desk_epoch_replica.specs.Follows.{reported_after, unsaved_after};
+ghost use Rattle.desk_epoch_replica.specs.MemberValue.{HasPast, new_member};
+ghost use Rattle.desk_epoch_replica.specs.ReplicaValue.{ReplicaValue, takes_logs};
+ghost use Rattle.desk_epoch_replica.specs.Saves.{ReplicaBegins, FailsToSaveReplica, IsSavedReplica, SavesReplica};
+ghost use Rattle.desk_epoch_replica.specs.Saves.{replica_base, replica_cut, may_begin};
+
+use crate::epoch_member::EpochMember;
+use crate::item::EpochItem;
+use crate::replica_step::ReplicaStep;
+use desk_epoch_node::{Ended, EpochNode};
+use desk_epoch_stores::{EpochStores, NodeStores, OpenedEpoch, reported_state};
+use desk_log::{Log, Saved, StateStore};
+use desk_types::{Entry, Owner, Refusal, WantOfMemory};
+use std::alloc::Global;
+use std::marker::Model;
+
+/// A member of a group that goes on over epochs, with its stores. A log that it was told is held until all of it is
+/// published.
+pub struct EpochReplica<T: EpochStores> {
+    member: EpochMember,
+    stores: NodeStores<T>,
+    reported: Option<Saved>,
+    unsaved: bool,
+}
+
+// Written out, so that callers need not prove each part's drop.
+impl<T: EpochStores + Drop> Drop for EpochReplica<T> {
+    fn drop(self) {
+        let EpochReplica {
+            member: _,
+            stores: _,
+            reported: _,
+            unsaved: _,
+        } = self;
+    }
+}
+
+impl<T: EpochStores> Model for EpochReplica<T> {
+    ghost use Rattle.desk_epoch_replica.specs.ReplicaValue.{ReplicaValue};
+
+    ghost Value = { ReplicaValue T T.Store };
+
+    ghost view = { λ r. record {
+      member = r.member;
+      stores = r.stores.stores;
+      current = r.stores.current;
+      next = r.stores.next;
+      reported = r.reported;
+      unsaved = r.unsaved;
+    } };
+}
+
+impl<T: EpochStores + Drop> EpochReplica<T> {
+    /// The replica of a node that starts in an epoch, with what opens the stores of others. It takes memory for each
+    /// node of the group.
+    pub fn start(
+        alloc: Global,
+        stores: T,
+        opened: OpenedEpoch<T>,
+        owner: Owner,
+    ) -> Result<EpochReplica<T>, WantOfMemory>
+        requires group { IsGroup owner.n }
+        requires id { owner.id < owner.n }
+        requires past { HasPast opened.past }
+        ensures member { IfOk result (λ r. r.member ≡ new_member (record {
+          epoch = opened.epoch;
+          past = opened.past;
+          most = opened.most;
+          node = node_from owner opened.saved;
+        })) }
+        ensures stores { IfOk result (λ r. (r.stores ≡ stores) × (r.current ≡ opened.store) × (r.next ≡ None)) }
+        ensures reported { IfOk result (λ r. r.reported ≡ None) }
+        ensures saved { IfOk result (λ r. IsSavedReplica T.Store.StateStore r) }
+    {
+        let (node, store) = opened.into_node(alloc, owner);
+        match EpochMember::new(alloc, node) {
+            Ok(member) => Ok(EpochReplica {
+                member,
+                stores: NodeStores::new(stores, store),
+                reported: None,
+                unsaved: false,
+            }),
+            Err(refused) => {
+                drop(store);
+                drop(stores);
+                Err(refused)
+            }
+        }
+    }
+}
+
+impl<T: EpochStores> EpochReplica<T> {
+    /// The node over epochs, as the items so far left it.
+    pub fn node(&self) -> &EpochNode
+        ensures { result.now ≡ self.now.member.node }
+    {
+        self.member.node()
+    }
+
+    /// How many items were refused for want of memory since the start. The count stays at its greatest value.
+    pub fn refused(&self) -> u64
+        ensures { result ≡ self.now.member.refused }
+    {
+        self.member.refused()
+    }
+
+    /// How many entries the logs of its past have.
+    pub fn past_len(&self) -> u64
+        ensures { result ≡ replica_base self.now }
+    {
+        self.member.node().past().len()
+    }
+
+    /// What it has committed after them.
+    pub fn committed(&self) -> &[Entry]
+        ensures { result.now ≡ replica_cut self.now }
+    {
+        self.member.committed()
+    }
+
+    /// The state of the epoch before, whose log it was told, as long as not all of that log is published. These are the
+    /// last entries of its past.
+    pub fn reported(&self) -> Option<&Saved>
+        ensures { MatchOption result (self.now.reported ≡ None) (λ s. self.now.reported ≡ Some s.now) }
+    {
+        self.reported.as_ref()
+    }
+
+    /// Notes that all of the log that it was told is published, where that log is saved.
+    pub fn forget_reported(&mut self)
+        requires saved { self.old.unsaved ≡ false }
+        ensures { self.new ≡ record {
+          member = self.old.member;
+          stores = self.old.stores;
+          current = self.old.current;
+          next = self.old.next;
+          reported = None;
+          unsaved = false;
+        } }
+    {
+        self.reported = None;
+    }
+
+    /// Whether it takes a log that it is told.
+    fn takes_logs(&self) -> bool
+        ensures { result ≡ takes_logs self.now }
+    {
+        self.stores.is_ready() && self.reported.is_none()
+    }
+
+    /// Holds a log that it was told, which is yet to be saved.
+    fn note_report(&mut self, log: Option<Log>)
+        ensures { self.new ≡ record {
+          member = self.old.member;
+          stores = self.old.stores;
+          current = self.old.current;
+          next = self.old.next;
+          reported = reported_after self.old.reported log;
+          unsaved = unsaved_after self.old.unsaved log;
+        } }
+    {
+        if let Some(log) = log {
+            self.reported = Some(reported_state(log));
+            self.unsaved = true;
+        }
+    }
+
+    /// Does an item in memory, and gives what is to be sent and answered once it is saved. A log that it is told is
+    /// dropped where the next store is not open, or the log before is not published. Where memory is refused the item
+    /// is counted, and nothing else changes.
+    pub fn act(&mut self, item: EpochItem) -> Result<ReplicaStep, WantOfMemory>
+        ensures did { IfOk result (λ step. (past : List AnEntry) → StandFor past self.old.member.node.past →
+            ReplicaDoes past self.old item step self.new) }
+        ensures err { OnErr result (ReplicaRefuses self.old self.new) }
+        ensures follows { ReplicaFollows self.old self.new }
+    {
+        let takes = self.takes_logs();
+        let (step, log) = self.member.act(takes, item)?;
+        self.note_report(log);
+        Ok(step)
+    }
+
+    /// Counts an item that was refused for want of memory.
+    pub fn count_refused(&mut self)
+        ensures refused { ReplicaRefuses self.old self.new }
+        ensures follows { ReplicaFollows self.old self.new }
+    {
+        self.member.refuse();
+    }
+
+    /// Saves what items made of it, where the caller knows how many entries `committed` had when it was saved last. Of
+    /// a log that it was told the state with that log is saved first, in the store of its epoch, and then the first
+    /// state of the next epoch in the next store. After a fault, which is told as 41, nothing more may be saved.
+    pub fn save(&mut self, known: u64) -> Result<(), Refusal>
+        requires { (before : ReplicaValue T T.Store) × IsSavedReplica T.Store.StateStore before
+            × ReplicaFollows before self.old × (known ≡ length (replica_cut before)) }
+        ensures { MatchResult result (λ _. SavesReplica T.Store.StateStore self.old self.new)
+            (λ r. FailsToSaveReplica T.Store.StateStore self.old self.new × (r ≡ refusals.StoreFault)) }
+    {
+        let EpochReplica {
+            member,
+            stores,
+            reported,
+            unsaved,
+        } = self;
+        if !*unsaved {
+            return stores.save(member.node().node().saved(), known);
+        }
+        let Some(reported) = reported else {
+            unreachable!();
+        };
+        let before = stores.begin_with_rest(member.node(), reported, known)?;
+        drop(before);
+        *unsaved = false;
+        Ok(())
+    }
+
+    /// Opens the store of the next epoch, where it is not open. Where memory is refused (40) nothing changes, and it
+    /// may be tried again. At 41 and 45 the replica cannot go on.
+    pub fn prepare(&mut self) -> Result<(), Refusal>
+        ensures member { self.new.member ≡ self.old.member }
+        ensures current { self.new.current ≡ self.old.current }
+        ensures reported { (self.new.reported ≡ self.old.reported) × (self.new.unsaved ≡ self.old.unsaved) }
+        ensures ready { OnOk result (is_some self.new.next ≡ true) }
+        ensures held { self.old.next ≡ None → IfSome self.new.next
+            (λ store. T.may_hold self.old.stores (self.old.member.node.epoch + 1) (T.Store.last store)) }
+    {
+        self.stores.prepare(self.member.node())
+    }
+
+    /// Begins the next epoch where it has committed the end of its own, there is one more, the next store is open, and
+    /// no log that it was told is unpublished. Ok is what is to be sent first, and the replica is saved. Err is 40
+    /// where memory is refused, and then nothing changes. It is 41 where the save failed; then nothing may be sent in
+    /// the new epoch, which a start finds as one that has not begun.
+    pub fn begin_next(&mut self) -> Result<Option<ReplicaStep>, Refusal>
+        requires saved { IsSavedReplica T.Store.StateStore self.old }
+        ensures begun { IfOk result (λ begun. MatchOption begun (self.new ≡ self.old)
+            (λ step. ReplicaBegins T.Store.StateStore self.old step self.new)) }
+        ensures waits { IfOk result (λ begun. begun ≡ None → may_begin self.old ≡ false) }
+        ensures refused { IfErr result (λ r. r ≡ refusals.WantOfMemory → self.new ≡ self.old) }
+        ensures unsaved { IfErr result (λ r. r ≡ refusals.StoreFault → (packets : List _)
+            × ((past : List AnEntry) → StandFor past self.old.member.node.past →
+            BeginsAfter past (replica_cut self.old) self.old.member.node self.new.member.node packets)) }
+        ensures left { OnErr result (self.new.current ≡ self.old.current) }
+        ensures fault { IfErr result (λ r. (r ≡ refusals.WantOfMemory) ⊎ (r ≡ refusals.StoreFault)) }
+    {
+        if self.reported.is_some() {
+            return Ok(None);
+        }
+        let Some(ended) = self.member.begin_next(&mut self.stores)? else {
+            return Ok(None);
+        };
+        let Ended { node, packets } = ended;
+        drop(node);
+        let epoch = self.member.node().epoch();
+        Ok(Some(ReplicaStep::Began { epoch, packets }))
+    }
+}

@@ -1,0 +1,318 @@
+//! A replica of three nodes whose epochs end after two entries, with stores that may fail.
+
+ghost use Rattle.std.specs.Prelude.{◌≡◌, IfOk, OnOk};
+ghost use Rattle.desk_epoch_replica.specs.Saves.{IsSavedReplica};
+
+use super::epochs::{Comes, event};
+use desk_epoch_node::EpochEvent;
+use desk_epoch_replica::{EpochAnswer, EpochItem, EpochReplica, ReplicaStep};
+use desk_epoch_stores::{EpochStores, OpenedEpoch};
+use desk_log::{Saved, StateStore};
+use desk_types::{Domain, Owner, Refusal, WantOfMemory};
+use std::alloc::Global;
+
+/// A store in memory, which may fail at each save.
+#[derive(Drop)]
+struct FaultyStore {
+    last: Saved,
+    fails: bool,
+}
+
+impl StateStore for FaultyStore {
+    ghost use Rattle.std.specs.Prelude.{false};
+
+    ghost last = { λ store. store.last };
+
+    ghost stopped = { λ _. false };
+
+    ghost keeps = { λ _ _. Unit {0} };
+
+    // It is never opened again.
+    ghost leaves = { λ _ _ _. Unit {0} };
+
+    fn copy_last(&self) -> Result<Saved, WantOfMemory> {
+        self.last.copy()
+    }
+
+    fn save_state(&mut self, saved: &Saved, known: u64) -> Result<(), Refusal> {
+        if self.fails {
+            return Err(Refusal::StoreFault);
+        }
+        match self.last.follow(saved, known) {
+            Ok(()) => Ok(()),
+            Err(_) => Err(Refusal::StoreFault),
+        }
+    }
+
+    ghost preserved_still = { λ _. tt };
+
+    ghost preserved_further = { λ _ _ _ _ _. tt };
+}
+
+/// Opens empty stores, of which that of one epoch fails.
+#[derive(Drop)]
+struct FaultyStores {
+    alloc: Global,
+    faulty: u64,
+}
+
+impl EpochStores for FaultyStores {
+    type Store = FaultyStore;
+
+    ghost may_hold = { λ _ _ _. Unit {0} };
+
+    fn open(&mut self, epoch: u64) -> Result<FaultyStore, Refusal> {
+        Ok(FaultyStore {
+            last: Saved::initial(self.alloc),
+            fails: epoch == self.faulty,
+        })
+    }
+}
+
+/// A replica whose last state is saved.
+#[derive(Drop)]
+struct Running {
+    replica: EpochReplica<FaultyStores>,
+    pub ghost saved: { IsSavedReplica ⟦<FaultyStore as StateStore>⟧ replica },
+}
+
+/// What comes to a replica, or what its keeper does.
+#[derive(Clone, Copy)]
+enum Asked {
+    Meet(Comes),
+    /// So many ticks go by.
+    Ticks(u64),
+    /// The store of the next epoch is opened.
+    Prepare,
+    /// The next epoch begins where it is due.
+    Begin,
+    /// All of a log that it was told is published.
+    Publish,
+}
+
+/// Node 0 of three at its start, where the store of an epoch fails.
+fn start(alloc: Global, faulty: u64) -> Option<Running> {
+    let mut stores = FaultyStores { alloc, faulty };
+    let Ok(opened) = OpenedEpoch::current(alloc, &mut stores, 2) else {
+        return None;
+    };
+    let owner = Owner {
+        id: 0,
+        n: 3,
+        domain: Domain::new(alloc, "desk.example").ok()?,
+    };
+    let replica = EpochReplica::start(alloc, stores, opened, owner).ok()?;
+    Some(Running { replica })
+}
+
+fn item(alloc: Global, comes: Comes) -> Option<EpochItem> {
+    match event(alloc, comes)? {
+        EpochEvent::Request(entry) => Some(EpochItem::Request(entry)),
+        EpochEvent::Packet(packet) => Some(EpochItem::Packet(packet)),
+        other => {
+            drop(other);
+            None
+        }
+    }
+}
+
+/// A word of what comes of an item, with a number that it says.
+fn word(step: &ReplicaStep) -> (&'static str, u64) {
+    match step {
+        ReplicaStep::Nothing => ("nothing", 0),
+        ReplicaStep::Own { base, .. } => ("own", *base),
+        ReplicaStep::Answer(answer) => match answer {
+            EpochAnswer::Committed { place, .. } => ("committed", *place),
+            EpochAnswer::Refused { .. } => ("refused", 0),
+            EpochAnswer::Deferred(_) => ("deferred", 0),
+        },
+        ReplicaStep::Ask { to, .. } => ("ask", *to as u64),
+        ReplicaStep::Tell { epoch, .. } => ("tell", *epoch),
+        ReplicaStep::Began { epoch, .. } => ("began", *epoch),
+    }
+}
+
+/// What is told of something, or a fault, with a number.
+type Told = (&'static str, u64);
+
+/// Does an item and saves what it made.
+fn met(running: Running, item: EpochItem) -> Result<(Running, Told), Told> {
+    let Running { mut replica } = running;
+    let known = replica.committed().len() as u64;
+    let told = match replica.act(item) {
+        Ok(step) => word(&step),
+        Err(_) => ("no memory", 0),
+    };
+    match replica.save(known) {
+        Ok(()) => Ok((Running { replica }, told)),
+        Err(_) => Err(("not saved", replica.past_len())),
+    }
+}
+
+fn ticked(running: Running, ticks: u64) -> Result<(Running, Told), Told> {
+    let mut running = running;
+    for _tick in 0..ticks {
+        let (next, _) = met(running, EpochItem::Tick)?;
+        running = next;
+    }
+    Ok((running, ("ticks", ticks)))
+}
+
+fn begun(running: Running) -> Result<(Running, Told), Told> {
+    let Running { mut replica } = running;
+    match replica.begin_next() {
+        Ok(Some(step)) => {
+            let told = word(&step);
+            Ok((Running { replica }, told))
+        }
+        Ok(None) => {
+            let epoch = replica.node().epoch();
+            Ok((Running { replica }, ("goes on", epoch)))
+        }
+        Err(_) => Err(("not begun", replica.past_len())),
+    }
+}
+
+fn prepared(running: Running) -> Result<(Running, Told), Told> {
+    let Running { mut replica } = running;
+    match replica.prepare() {
+        Ok(()) => Ok((Running { replica }, ("ready", 0))),
+        Err(_) => Err(("not ready", 0)),
+    }
+}
+
+fn published(running: Running) -> Result<(Running, Told), Told> {
+    let Running { mut replica } = running;
+    let count = match replica.reported() {
+        Some(saved) => saved.commit(),
+        None => 0,
+    };
+    replica.forget_reported();
+    Ok((Running { replica }, ("published", count)))
+}
+
+fn done(alloc: Global, running: Running, asked: Asked) -> Result<(Running, Told), Told> {
+    match asked {
+        Asked::Meet(comes) => match item(alloc, comes) {
+            Some(item) => met(running, item),
+            None => Err(("no item", 0)),
+        },
+        Asked::Ticks(ticks) => ticked(running, ticks),
+        Asked::Prepare => prepared(running),
+        Asked::Begin => begun(running),
+        Asked::Publish => published(running),
+    }
+}
+
+/// What is done to a replica, and what comes of it.
+type Row = (Asked, Told);
+
+/// The first row, counted from 1, that does not come true; 0 where there is no replica. The last row may be a fault.
+fn first_untrue(alloc: Global, faulty: u64, rows: &[Row]) -> Option<usize> {
+    let Some(mut running) = start(alloc, faulty) else {
+        return Some(0);
+    };
+    for (index, row) in rows.iter().enumerate() {
+        match done(alloc, running, row.0) {
+            Ok((next, told)) => {
+                if told != row.1 {
+                    return Some(index + 1);
+                }
+                running = next;
+            }
+            Err(fault) => {
+                let is_last = index + 1 == rows.len() && fault == row.1;
+                return if is_last { None } else { Some(index + 1) };
+            }
+        }
+    }
+    None
+}
+
+/// No store fails.
+const NONE: u64 = 9;
+
+const GOES_OVER: &[Row] = &[
+    (Asked::Meet(Comes::Request(7, 1)), ("own", 0)),
+    (Asked::Meet(Comes::Request(7, 2)), ("own", 0)),
+    (Asked::Meet(Comes::Request(8, 1)), ("deferred", 0)),
+    (Asked::Meet(Comes::PrepareOk(0, 2)), ("own", 0)),
+    // The next store is not open.
+    (Asked::Begin, ("goes on", 0)),
+    (Asked::Prepare, ("ready", 0)),
+    (Asked::Begin, ("began", 1)),
+    (Asked::Meet(Comes::Request(7, 2)), ("committed", 2)),
+    (Asked::Meet(Comes::Request(7, 1)), ("refused", 0)),
+    (Asked::Meet(Comes::Request(8, 1)), ("own", 2)),
+    (Asked::Meet(Comes::PrepareOk(1, 1)), ("own", 2)),
+];
+
+const IS_TOLD: &[Row] = &[
+    // No store is ready for the next epoch.
+    (Asked::Meet(Comes::Tell(0, 0, 2)), ("nothing", 0)),
+    (Asked::Prepare, ("ready", 0)),
+    (Asked::Meet(Comes::Tell(0, 0, 2)), ("began", 1)),
+    (Asked::Prepare, ("ready", 0)),
+    // The log before is not published.
+    (Asked::Meet(Comes::Tell(1, 0, 2)), ("nothing", 0)),
+    (Asked::Publish, ("published", 2)),
+    (Asked::Meet(Comes::Tell(1, 0, 2)), ("began", 2)),
+];
+
+const ASKS_AND_TELLS: &[Row] = &[
+    (Asked::Meet(Comes::PrepareOk(3, 1)), ("ask", 1)),
+    (Asked::Meet(Comes::PrepareOk(3, 1)), ("nothing", 0)),
+    (Asked::Ticks(49), ("ticks", 49)),
+    (Asked::Meet(Comes::PrepareOk(3, 1)), ("nothing", 0)),
+    (Asked::Ticks(1), ("ticks", 1)),
+    (Asked::Meet(Comes::PrepareOk(3, 1)), ("ask", 1)),
+    (Asked::Prepare, ("ready", 0)),
+    (Asked::Meet(Comes::Tell(0, 0, 2)), ("began", 1)),
+    (Asked::Meet(Comes::Ask(0, 0)), ("tell", 0)),
+    (Asked::Meet(Comes::Ask(0, 0)), ("nothing", 0)),
+    (Asked::Ticks(50), ("ticks", 50)),
+    (Asked::Meet(Comes::Ask(0, 0)), ("tell", 0)),
+];
+
+const SAVE_FAILS: &[Row] = &[(Asked::Meet(Comes::Request(7, 1)), ("not saved", 0))];
+
+/// It is told a log, and what it then is cannot be saved.
+const TOLD_SAVE_FAILS: &[Row] = &[
+    (Asked::Prepare, ("ready", 0)),
+    (Asked::Meet(Comes::Tell(0, 0, 2)), ("not saved", 2)),
+];
+
+const BEGINNING_FAILS: &[Row] = &[
+    (Asked::Prepare, ("ready", 0)),
+    (Asked::Meet(Comes::Request(7, 1)), ("own", 0)),
+    (Asked::Meet(Comes::Request(7, 2)), ("own", 0)),
+    (Asked::Meet(Comes::PrepareOk(0, 2)), ("own", 0)),
+    (Asked::Begin, ("not begun", 2)),
+];
+
+/// The epoch whose store fails, and what is done.
+const RUNS: &[(u64, &[Row])] = &[
+    (NONE, GOES_OVER),
+    (NONE, IS_TOLD),
+    (NONE, ASKS_AND_TELLS),
+    (0, SAVE_FAILS),
+    (0, TOLD_SAVE_FAILS),
+    (1, TOLD_SAVE_FAILS),
+    (1, BEGINNING_FAILS),
+];
+
+/// The first run, counted from 1, that does not come true, with its first row that does not.
+fn first_other_run(alloc: Global) -> Option<(usize, usize)> {
+    for (index, run) in RUNS.iter().enumerate() {
+        if let Some(row) = first_untrue(alloc, run.0, run.1) {
+            return Some((index + 1, row));
+        }
+    }
+    None
+}
+
+#[test]
+fn a_replica_goes_over_epochs_with_its_stores(rt: HostRuntime) {
+    let alloc = rt.alloc();
+    assert!(rt; first_other_run(alloc) == None);
+}
