@@ -1,7 +1,7 @@
 //! Connections that come to a node.
 
-ghost use Rattle.std.specs.Prelude.{◌≡◌, ◌⊎◌, Some};
-ghost use Rattle.desk_connections.specs.Admitted.{HasShownKey};
+ghost use Rattle.std.specs.Prelude.{◌≡◌, ◌⊎◌, IfSome, Some};
+ghost use Rattle.desk_connections.specs.Admitted.{HasShownKey, HasShownKeyOr};
 ghost use Rattle.desk_mailbox.specs.Ends.{put_by};
 ghost use Rattle.desk_peers.specs.Incoming.{HasPutOnlyOf};
 
@@ -30,7 +30,7 @@ use std::thread;
 use std::time::Duration;
 
 /// A connection whose reads can be limited.
-trait LimitedReads {
+pub trait LimitedReads {
     /// Has each read wait for so many seconds at most. False where the host can not do that.
     fn limit_reads(&self, seconds: u64) -> bool;
 }
@@ -42,8 +42,16 @@ impl LimitedReads for TcpStream {
     }
 }
 
-/// The nonce for a connection that came to a port with a key, which is limited for the handshake.
-fn nonce_for<R: RandomSource>(rt: &R, stream: &TcpStream) -> Option<[u8; NONCE_BYTES]> {
+/// The nonce for a connection that came to a port with a key, which is limited for the handshake. None at a port
+/// without one, and where the host draws no nonce or sets no limit.
+fn nonce_for<R: RandomSource>(
+    rt: &R,
+    door: &WatchedDoor,
+    stream: &TcpStream,
+) -> Option<[u8; NONCE_BYTES]> {
+    if door.keyed.is_none() {
+        return None;
+    }
     let nonce = drawn_nonce(rt).ok()?;
     stream
         .set_write_timeout(Some(Duration::from_secs(WRITE_SECONDS)))
@@ -59,7 +67,7 @@ fn is_of_browser<I: Read>(input: &NotedInput<I>, outcome: &Result<(), Refusal>) 
     !input.has_failed && matches!(outcome, Err(Refusal::ReadFault))
 }
 
-/// Serves one session. Where there is no memory for it, that is told.
+/// Serves one session. Where there is no memory for it, that is announced.
 fn serve_lines<B: BoardName, I: Read + Drop, O: Write, R: Wait>(
     rt: &R,
     alloc: Global,
@@ -132,40 +140,47 @@ fn serve_keyed<B: BoardName, I: Read + Drop, O: Write + Drop, L: LimitedReads, R
     serve_admitted(rt, alloc, door, stream, wire, reader)
 }
 
-/// Serves a connection as one session, once it is admitted where the port has a key. Then the connection is closed.
+/// Serves who came to a port by one session, once he is admitted where the port has a key, and gives back what serves
+/// the next one. The nonce is drawn for the connection; without one nobody is admitted at a port with a key.
+pub fn serve_ends<B: BoardName, I: Read + Drop, O: Write + Drop, L: LimitedReads, R: Wait>(
+    rt: &R,
+    alloc: Global,
+    door: &WatchedDoor,
+    ends: (I, O),
+    limits: &L,
+    nonce: Option<[u8; NONCE_BYTES]>,
+    parts: (Wire<B>, BoardReader<B>),
+) -> (Wire<B>, BoardReader<B>)
+    // Where the port has a key, and it was not shown, nothing is asked.
+    ensures { IfSome door.now.keyed (λ k. HasShownKeyOr (result ≡ parts) k nonce (I.remaining ends.0)) }
+{
+    let Some(keyed) = &door.keyed else {
+        let _ = limits.limit_reads(SESSION_SECONDS);
+        let (input, mut output) = ends;
+        let (wire, reader) = parts;
+        return serve_lines(rt, alloc, door, input, &mut output, wire, reader);
+    };
+    match nonce {
+        Some(nonce) => serve_keyed(rt, alloc, door, ends, limits, keyed, &nonce, parts),
+        None => {
+            door.tell_refused(rt, Why::Handshake);
+            parts
+        }
+    }
+}
+
+/// Serves a connection as one session. Then the connection is closed.
 fn serve_stream<B: BoardName, R: Wait + RandomSource>(
     rt: &R,
     alloc: Global,
     stream: &TcpStream,
     door: &WatchedDoor,
-    wire: Wire<B>,
-    reader: BoardReader<B>,
+    parts: (Wire<B>, BoardReader<B>),
 ) -> (Wire<B>, BoardReader<B>) {
     // each reply goes out at once; where the host can not do that, it goes out late
     let _ = stream.set_nodelay(true);
-    match &door.keyed {
-        None => {
-            let _ = stream.set_read_timeout(Some(Duration::from_secs(SESSION_SECONDS)));
-            let mut output = stream;
-            serve_lines(rt, alloc, door, stream, &mut output, wire, reader)
-        }
-        Some(keyed) => match nonce_for(rt, stream) {
-            Some(nonce) => serve_keyed(
-                rt,
-                alloc,
-                door,
-                (stream, stream),
-                stream,
-                keyed,
-                &nonce,
-                (wire, reader),
-            ),
-            None => {
-                door.tell_refused(rt, Why::Handshake);
-                (wire, reader)
-            }
-        },
-    }
+    let nonce = nonce_for(rt, door, stream);
+    serve_ends(rt, alloc, door, (stream, stream), stream, nonce, parts)
 }
 
 /// Serves one session after the other, as they come to the port.
@@ -180,10 +195,7 @@ pub(crate) fn serve_sessions<B: BoardName, R: Wait + Clock + RandomSource>(
     let mut parts = (wire, reader);
     for stream in listener.incoming() {
         match stream {
-            Ok(stream) => {
-                let (wire, reader) = parts;
-                parts = serve_stream(rt, alloc, &stream, door, wire, reader);
-            }
+            Ok(stream) => parts = serve_stream(rt, alloc, &stream, door, parts),
             Err(_) => thread::sleep(rt, Duration::from_millis(PAUSE_MILLISECONDS)),
         }
     }
@@ -242,40 +254,34 @@ fn take_keyed<I: Read + Drop, O: Write + Drop, L: LimitedReads, R: Wait>(
     take_admitted(rt, alloc, door, admitted, sender)
 }
 
-/// Takes the packets of a connection, once it is admitted where the port has a key. It ends at the first bytes that are
-/// no frame.
-fn take_stream<R: Wait + RandomSource>(
+/// Takes the packets of who came to a port, once he is admitted where the port has a key, and gives back what takes
+/// those of the next one. The nonce is drawn for the connection; without one nobody is admitted at a port with a key.
+/// It ends at the first bytes that are no frame.
+pub fn take_ends<I: Read + Drop, O: Write + Drop, L: LimitedReads, R: Wait>(
     rt: &R,
     alloc: Global,
-    stream: &TcpStream,
     door: &WatchedDoor,
+    ends: (I, O),
+    limits: &L,
+    nonce: Option<[u8; NONCE_BYTES]>,
     sender: Sender<Item>,
-) -> Sender<Item> {
-    match &door.keyed {
+) -> Sender<Item>
+    // Where the port has a key, and it was not shown, nothing is put.
+    ensures { IfSome door.now.keyed (λ k. HasShownKeyOr (result ≡ sender) k nonce (I.remaining ends.0)) }
+{
+    let Some(keyed) = &door.keyed else {
+        let _ = limits.limit_reads(PEER_SECONDS);
+        let (mut input, _output) = ends;
+        let (sender, outcome) = take_packets(rt, alloc, None, &mut input, sender);
+        tell_no_packet(rt, door, &outcome);
+        return sender;
+    };
+    match nonce {
+        Some(nonce) => take_keyed(rt, alloc, door, ends, limits, keyed, &nonce, sender),
         None => {
-            let _ = stream.set_read_timeout(Some(Duration::from_secs(PEER_SECONDS)));
-            let mut reader = stream;
-            let (sender, outcome) = take_packets(rt, alloc, None, &mut reader, sender);
-            tell_no_packet(rt, door, &outcome);
-            drop(outcome);
+            door.tell_refused(rt, Why::Handshake);
             sender
         }
-        Some(keyed) => match nonce_for(rt, stream) {
-            Some(nonce) => take_keyed(
-                rt,
-                alloc,
-                door,
-                (stream, stream),
-                stream,
-                keyed,
-                &nonce,
-                sender,
-            ),
-            None => {
-                door.tell_refused(rt, Why::Handshake);
-                sender
-            }
-        },
     }
 }
 
@@ -290,7 +296,11 @@ pub(crate) fn take_connections<R: Wait + Clock + RandomSource>(
     let mut sender = sender;
     for stream in listener.incoming() {
         match stream {
-            Ok(stream) => sender = take_stream(rt, alloc, &stream, door, sender),
+            Ok(stream) => {
+                let nonce = nonce_for(rt, door, &stream);
+                let ends = (&stream, &stream);
+                sender = take_ends(rt, alloc, door, ends, &stream, nonce, sender);
+            }
             Err(_) => thread::sleep(rt, Duration::from_millis(PAUSE_MILLISECONDS)),
         }
     }

@@ -1,18 +1,20 @@
 //! A port that is listened at, as its threads see it.
 
+ghost use Rattle.std.specs.Prelude.{◌≡◌};
+
 use desk_admission::KeyedPort;
 use desk_events::{Door, Event, EventLog, Why};
 use std::io::{Read, Result};
 use std::sync::Wait;
 
-/// The key of who is let in at a port, where it has one, and where it is told who is refused there.
-pub(crate) struct WatchedDoor {
+/// The key of who is let in at a port, where it has one, and where it is announced who is refused there.
+pub struct WatchedDoor {
     pub(crate) keyed: Option<KeyedPort>,
     log: EventLog,
     at: Door,
 }
 
-// It is written out, so that a caller does not prove again how each part is dropped.
+// Written out, so that callers need not prove each part's drop.
 impl Drop for WatchedDoor {
     fn drop(self) {
         let WatchedDoor {
@@ -24,7 +26,10 @@ impl Drop for WatchedDoor {
 }
 
 impl WatchedDoor {
-    pub(crate) fn new(keyed: Option<KeyedPort>, log: EventLog, at: Door) -> WatchedDoor {
+    /// The door of a port, with its key where it has one. It announces to the log who is refused there.
+    pub fn new(keyed: Option<KeyedPort>, log: EventLog, at: Door) -> WatchedDoor
+        ensures { result.keyed ≡ keyed }
+    {
         WatchedDoor { keyed, log, at }
     }
 

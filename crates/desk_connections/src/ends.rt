@@ -13,7 +13,7 @@ pub struct EndFlag {
     is_set: Arc<AtomicBool>,
 }
 
-// It is written out, so that a caller does not prove again how each part is dropped.
+// Written out, so that callers need not prove each part's drop.
 impl Drop for EndFlag {
     fn drop(self) {
         let EndFlag { is_set: _ } = self;

@@ -12,6 +12,8 @@ mod runtime;
 mod starting;
 mod ticks;
 
+pub use connections::{LimitedReads, serve_ends, take_ends};
+pub use doors::WatchedDoor;
 pub use ends::{EndFlag, end_with_input};
 pub use links::PeerAddress;
 pub use ports::{GroupSetup, NodeKeys, NodePorts, NodeSetup, PortRefused, bind_group};

@@ -1,5 +1,9 @@
 //! Connections to the other nodes.
 
+ghost use Rattle.std.specs.Prelude.{◌≡◌, Some, MatchResult};
+ghost use Rattle.desk_connections.specs.Links.{IsLinkNews};
+ghost use Rattle.desk_connections.specs.declared.links.LinkState.TheVariants as states;
+
 use crate::limits::{
     IDLE_LINK_SECONDS, LINK_SECONDS, PROOF_SECONDS, REST_MILLISECONDS, WRITE_SECONDS,
 };
@@ -34,25 +38,25 @@ enum LinkState {
     Down(Why),
 }
 
-/// What is told of the link to a peer.
+/// What is announced of the link to a peer.
 pub(crate) struct LinkNews {
     log: EventLog,
     /// The peer's number.
     to: u8,
-    /// What was told of the link last, where anything was.
-    told: Option<LinkState>,
-    /// Whether a write to the connection failed, which is told at the next try to connect: there is none at the end of
-    /// the node.
+    /// What was announced of the link last, where anything was.
+    announced: Option<LinkState>,
+    /// Whether a write to the connection failed, which is announced at the next try to connect: there is none at the
+    /// end of the node.
     was_broken: bool,
 }
 
-// It is written out, so that a caller does not prove again how each part is dropped.
+// Written out, so that callers need not prove each part's drop.
 impl Drop for LinkNews {
     fn drop(self) {
         let LinkNews {
             log: _,
             to: _,
-            told: _,
+            announced: _,
             was_broken: _,
         } = self;
     }
@@ -63,22 +67,33 @@ impl LinkNews {
         LinkNews {
             log,
             to,
-            told: None,
+            announced: None,
             was_broken: false,
         }
     }
 
-    /// Tells how the link is, where it was not told so last.
-    fn tell<R: Wait>(&mut self, rt: &R, state: LinkState) {
-        if self.told == Some(state) {
-            return;
+    /// What is to be told of a link that is so, where it was not told so last.
+    fn news(&mut self, state: LinkState) -> Option<Event>
+        ensures news { IsLinkNews self.old.announced self.old.to state result }
+        ensures announced { self.new.announced ≡ Some state }
+    {
+        if self.announced == Some(state) {
+            return None;
         }
-        self.told = Some(state);
-        let event = match state {
+        self.announced = Some(state);
+        Some(match state {
             LinkState::Up => Event::LinkUp { to: self.to },
             LinkState::Down(why) => Event::LinkDown { to: self.to, why },
-        };
-        self.log.tell(rt, event);
+        })
+    }
+
+    /// Announces how the link is, where it was not announced so last.
+    fn tell<R: Wait>(&mut self, rt: &R, state: LinkState)
+        ensures { self.new.announced ≡ Some state }
+    {
+        if let Some(event) = self.news(state) {
+            self.log.tell(rt, event);
+        }
     }
 
     /// Notes that a write to the connection failed.
@@ -87,7 +102,11 @@ impl LinkNews {
     }
 
     /// Tells what a try to connect came to, and gives the connection.
-    fn tell_tried<R: Wait, T>(&mut self, rt: &R, tried: Result<T, Why>) -> Option<T> {
+    fn tell_tried<R: Wait, T>(&mut self, rt: &R, tried: Result<T, Why>) -> Option<T>
+        // What was announced last is what the try came to.
+        ensures { MatchResult tried (λ _. self.new.announced ≡ Some states.Up)
+            (λ w. self.new.announced ≡ Some (states.Down w)) }
+    {
         if self.was_broken {
             self.was_broken = false;
             self.tell(rt, LinkState::Down(Why::Broken));
@@ -146,7 +165,7 @@ impl<R: Net<Stream = TcpStream> + Wait + Drop> Connect for OpenPeer<R> {
         true
     }
 
-    // One that is kept is closed where a write failed, or at the end of the node.
+    // One that is held is closed where a write failed, or at the end of the node.
     fn close(&mut self, connection: TcpStream) {
         drop(connection);
         self.news.note_broken();
@@ -203,7 +222,7 @@ pub(crate) struct KeyedPeer<R> {
     pub(crate) news: LinkNews,
 }
 
-// It is written out, so that a caller does not prove again how each part is dropped.
+// Written out, so that callers need not prove each part's drop.
 impl<R: Drop> Drop for KeyedPeer<R> {
     fn drop(self) {
         let KeyedPeer {

@@ -88,7 +88,7 @@ pub struct NodePorts {
     pub(crate) sessions: BoundPort,
 }
 
-// It is written out, so that a caller does not prove again how each part is dropped.
+// Written out, so that callers need not prove each part's drop.
 impl Drop for NodePorts {
     fn drop(self) {
         let NodePorts {
@@ -210,7 +210,7 @@ pub struct NodeSetup {
     /// How the other nodes are reached.
     pub address: GroupAddress,
     pub ports: NodePorts,
-    /// Where its events are told.
+    /// Where its events are announced.
     pub log: EventLog,
 }
 

@@ -1,3 +1,4 @@
 pub mod Events
 pub mod Lines
 pub mod Rates
+pub mod Written

@@ -17,7 +17,7 @@ pub const QUEUE_EVENTS: usize = 256;
 struct Known {
     /// How many events found no room.
     lost: AtomicU64,
-    /// Whether it was told last that the node lacks entries.
+    /// Whether it was announced last that the node lacks entries.
     is_behind: AtomicBool,
 }
 
@@ -27,7 +27,7 @@ pub(crate) struct Putting {
     known: Arc<Known>,
 }
 
-// It is written out, so that a caller does not prove again how each part is dropped.
+// Written out, so that callers need not prove each part's drop.
 impl Drop for Putting {
     fn drop(self) {
         let Putting { to: _, known: _ } = self;
@@ -40,7 +40,7 @@ pub(crate) struct Taking {
     known: Arc<Known>,
 }
 
-// It is written out, so that a caller does not prove again how each part is dropped.
+// Written out, so that callers need not prove each part's drop.
 impl Drop for Taking {
     fn drop(self) {
         let Taking { from: _, known: _ } = self;
@@ -54,12 +54,12 @@ impl Taking {
     }
 }
 
-/// Where a thread tells the events of its node; of one without a log nothing is told.
+/// Where a thread announces the events of its node; without a log nothing is announced.
 pub struct EventLog {
     putting: Option<Putting>,
 }
 
-// It is written out, so that a caller does not prove again how each part is dropped.
+// Written out, so that callers need not prove each part's drop.
 impl Drop for EventLog {
     fn drop(self) {
         let EventLog { putting: _ } = self;
@@ -91,7 +91,7 @@ impl EventLog {
         Ok((log, Taking { from, known }))
     }
 
-    /// Whether anything is told.
+    /// Whether anything is announced.
     pub fn tells(&self) -> bool {
         self.putting.is_some()
     }
@@ -123,7 +123,7 @@ impl EventLog {
         }
     }
 
-    /// Tells that the node lacks entries after a place, where it was not told last.
+    /// Announces that the node lacks entries after a place, where it was not announced last.
     pub fn tell_behind<R: Wait>(&self, rt: &R, place: u64) {
         if let Some(Putting { to: _, known }) = &self.putting {
             if !known.is_behind.swap(true, Ordering::SeqCst) {
@@ -132,7 +132,7 @@ impl EventLog {
         }
     }
 
-    /// Tells that the node has got entries up to a place, where it was told last that it lacks some.
+    /// Announces that the node has got entries up to a place, where it was announced last that it lacks some.
     pub fn tell_level<R: Wait>(&self, rt: &R, place: u64) {
         if let Some(Putting { to: _, known }) = &self.putting {
             if known.is_behind.swap(false, Ordering::SeqCst) {

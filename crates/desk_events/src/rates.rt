@@ -1,8 +1,8 @@
 //! How many events of each kind get a line.
 
 ghost use Rattle.std.specs.Prelude.{◌≡◌, ◌<◌, ◌⊎◌, nat_lt, slice_index};
-ghost use Rattle.desk_events.specs.Rates.{is_told, after_event, new_rates, rates_in, suppressed_before};
-ghost use Rattle.desk_events.specs.Rates.{without_suppressed};
+ghost use Rattle.desk_events.specs.Rates.{is_announced, after_event, new_rates, rates_in, suppressed_before};
+ghost use Rattle.desk_events.specs.Rates.{with_suppressed, without_suppressed};
 ghost use Rattle.desk_events.specs.declared.event.TheConstants.{KINDS};
 ghost use Rattle.desk_events.specs.declared.rates.TheConstants.{EVENTS_A_SECOND};
 
@@ -15,7 +15,7 @@ pub const EVENTS_A_SECOND: u64 = 5;
 #[derive(Drop)]
 pub struct EventRates {
     second: u64,
-    told: [u64; KINDS],
+    announced: [u64; KINDS],
     suppressed: u64,
 }
 
@@ -26,7 +26,7 @@ impl EventRates {
     {
         EventRates {
             second: 0,
-            told: [0; KINDS],
+            announced: [0; KINDS],
             suppressed: 0,
         }
     }
@@ -42,7 +42,7 @@ impl EventRates {
         let suppressed = self.suppressed;
         *self = EventRates {
             second,
-            told: [0; KINDS],
+            announced: [0; KINDS],
             suppressed: 0,
         };
         suppressed
@@ -51,11 +51,11 @@ impl EventRates {
     /// Counts an event of a kind, and says whether it gets a line.
     pub fn admits(&mut self, kind: usize) -> bool
         requires { kind < KINDS }
-        ensures told { result ≡ is_told kind self.old }
+        ensures announced { result ≡ is_announced kind self.old }
         ensures rates { self.new ≡ after_event kind self.old }
     {
-        if self.told[kind] < EVENTS_A_SECOND {
-            self.told[kind] += 1;
+        if self.announced[kind] < EVENTS_A_SECOND {
+            self.announced[kind] += 1;
             return true;
         }
         self.suppressed = self.suppressed.saturating_add(1);
@@ -63,7 +63,9 @@ impl EventRates {
     }
 
     /// Counts events that got no line for another reason.
-    pub fn suppress(&mut self, count: u64) {
+    pub fn suppress(&mut self, count: u64)
+        ensures { self.new ≡ with_suppressed count self.old }
+    {
         self.suppressed = self.suppressed.saturating_add(count);
     }
 

@@ -1,5 +1,11 @@
 //! The thread that writes the lines.
 
+ghost use Rattle.std.specs.Prelude.{◌≡◌, ◌/◌, [], OnOk, MatchResult};
+ghost use Rattle.std.specs.Io.KnownBytes.{Appends};
+ghost use Rattle.desk_events.specs.Events.{event_kind};
+ghost use Rattle.desk_events.specs.Rates.{HaveAnnouncedSame, after_event, is_announced, rates_in};
+ghost use Rattle.desk_events.specs.Written.{HasAnnouncedCounts, HasAnnouncedEvent};
+
 use crate::event::Event;
 use crate::line::{event_text, suppressed_text};
 use crate::log::{EventLog, Taking};
@@ -18,7 +24,7 @@ use std::time::{Duration, SystemTime};
 /// So long is waited at the end for who reads the lines, in milliseconds.
 const END_MILLISECONDS: u64 = 1_000;
 
-/// So long is waited for an event before it is told how many got no line, in milliseconds.
+/// So long is waited for an event before it is written how many got no line, in milliseconds.
 const PAUSE_MILLISECONDS: u64 = 1_000;
 
 /// The milliseconds since 1970, 0 where the host tells no time.
@@ -43,7 +49,13 @@ struct EventWriter<W: Write> {
 
 impl<W: Write> EventWriter<W> {
     /// Writes a line, all of it at once. Nothing is written where there was no memory for it.
-    fn write_line(&mut self, line: Result<Vec<u8>, WantOfMemory>) -> Result<(), Refusal> {
+    fn write_line(&mut self, line: Result<Vec<u8>, WantOfMemory>) -> Result<(), Refusal>
+        ensures node { self.new.node ≡ self.old.node }
+        ensures line { OnOk result (MatchResult line
+            (λ l. Appends (W.contents self.old.writer) (W.contents self.new.writer) l.items)
+            (λ _. Appends (W.contents self.old.writer) (W.contents self.new.writer) [])) }
+        ensures rates { HaveAnnouncedSame self.old.rates self.new.rates }
+    {
         match line {
             Ok(line) => write_text(&mut self.writer, line.as_slice()),
             Err(WantOfMemory) => {
@@ -54,7 +66,12 @@ impl<W: Write> EventWriter<W> {
     }
 
     /// Writes how many events got no line, where some got none.
-    fn write_count(&mut self, time: u64, count: u64) -> Result<(), Refusal> {
+    fn write_count(&mut self, time: u64, count: u64) -> Result<(), Refusal>
+        ensures node { self.new.node ≡ self.old.node }
+        ensures counts { OnOk result
+            (HasAnnouncedCounts time self.old.node (W.contents self.old.writer) (W.contents self.new.writer)) }
+        ensures rates { HaveAnnouncedSame self.old.rates self.new.rates }
+    {
         if count == 0 {
             return Ok(());
         }
@@ -63,25 +80,52 @@ impl<W: Write> EventWriter<W> {
     }
 
     /// Writes how many events got no line in the second before.
-    fn turn(&mut self, time: u64) -> Result<(), Refusal> {
+    fn turn(&mut self, time: u64) -> Result<(), Refusal>
+        ensures node { self.new.node ≡ self.old.node }
+        ensures counts { OnOk result
+            (HasAnnouncedCounts time self.old.node (W.contents self.old.writer) (W.contents self.new.writer)) }
+        ensures rates { HaveAnnouncedSame (rates_in (time / 1000) self.old.rates) self.new.rates }
+    {
         let count = self.rates.go_to(time / 1_000);
         self.write_count(time, count)
     }
 
     /// Writes how many events got no line in the second before, and in the last one.
-    fn close(&mut self, time: u64) -> Result<(), Refusal> {
+    fn close(&mut self, time: u64) -> Result<(), Refusal>
+        ensures node { self.new.node ≡ self.old.node }
+        ensures counts { OnOk result
+            (HasAnnouncedCounts time self.old.node (W.contents self.old.writer) (W.contents self.new.writer)) }
+        ensures rates { HaveAnnouncedSame (rates_in (time / 1000) self.old.rates) self.new.rates }
+    {
         self.turn(time)?;
         let count = self.rates.take_suppressed();
         self.write_count(time, count)
     }
 
-    /// Writes the line of an event, where it gets one. No count of events follows the last event.
-    fn write(&mut self, time: u64, event: &Event) -> Result<(), Refusal> {
+    /// Writes how many events got no line before this one. No count of events follows the last event.
+    fn count_before(&mut self, time: u64, event: &Event) -> Result<(), Refusal>
+        ensures node { self.new.node ≡ self.old.node }
+        ensures counts { OnOk result
+            (HasAnnouncedCounts time self.old.node (W.contents self.old.writer) (W.contents self.new.writer)) }
+        ensures rates { HaveAnnouncedSame (rates_in (time / 1000) self.old.rates) self.new.rates }
+    {
         if matches!(event, Event::End { .. }) {
-            self.close(time)?;
+            self.close(time)
         } else {
-            self.turn(time)?;
+            self.turn(time)
         }
+    }
+
+    /// Writes the line of an event, where it gets one.
+    fn write(&mut self, time: u64, event: &Event) -> Result<(), Refusal>
+        // A line is written only where fewer of its kind than may were written in this second, and is counted.
+        ensures written { OnOk result (HasAnnouncedEvent time self.old.node event.now
+            (is_announced (event_kind event.now) (rates_in (time / 1000) self.old.rates))
+            (W.contents self.old.writer) (W.contents self.new.writer)) }
+        ensures rates { OnOk result (HaveAnnouncedSame
+            (after_event (event_kind event.now) (rates_in (time / 1000) self.old.rates)) self.new.rates) }
+    {
+        self.count_before(time, event)?;
         if !self.rates.admits(event.kind()) {
             return Ok(());
         }
@@ -120,11 +164,11 @@ fn write_events<R: Wait + Clock, W: Write>(rt: &R, taking: &Taking, writer: &mut
 /// The log of a node, and the thread that writes its lines, where it has one.
 pub struct EventThread {
     log: EventLog,
-    /// Gets nothing, and is told once the thread has ended.
+    /// Gets nothing, and is closed once the thread has ended.
     ended: Option<Receiver<()>>,
 }
 
-// It is written out, so that a caller does not prove again how each part is dropped.
+// Written out, so that callers need not prove each part's drop.
 impl Drop for EventThread {
     fn drop(self) {
         let EventThread { log: _, ended: _ } = self;

@@ -4,7 +4,7 @@ use Rattle.desk_types.specs.declared.refusal.Refusal.{Refusal}
 use Rattle.desk_types.specs.Refusal.{IsStoreRefusal, IsWritingFault}
 use Rattle.desk_log.specs.declared.state_store.StateStore.{Ghosts}
 
--- The nodes were not started, or the store of one failed (41, or 34 where it had failed before).
+-- The nodes were not started, or the store of one failed (`StoreFault`, or `NodeStopped` where it had failed before).
 abbrev pub IsServingEnd : Refusal → Type 0
 IsServingEnd r = IsWritingFault r ⊎ IsStoreRefusal r
 

@@ -1,4 +1,4 @@
-//! What is told of a node that lacks entries.
+//! What is announced of a node that lacks entries.
 
 use desk_events::EventLog;
 use desk_types::{Message, Packet};
@@ -10,7 +10,7 @@ pub(crate) struct CatchingUp<R> {
     log: EventLog,
 }
 
-// It is written out, so that a caller does not prove again how each part is dropped.
+// Written out, so that callers need not prove each part's drop.
 impl<R: Drop> Drop for CatchingUp<R> {
     fn drop(self) {
         let CatchingUp { rt: _, log: _ } = self;

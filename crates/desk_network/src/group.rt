@@ -95,7 +95,8 @@ fn join_nodes<R: Threads>(
 }
 
 /// Serves as all nodes of a group until the standard input ends; `ready` is written once all serve. It ends by the
-/// first fault of a node: 40, or 41 of its store in memory; and by 44 where `ready` could not be written.
+/// first fault of a node: `WantOfMemory`, or `StoreFault` of its store in memory; and by `WriteFault` where `ready`
+/// could not be written.
 pub fn serve_group<R: NodeRuntime + Input, W: Write>(
     rt: &R,
     alloc: Global,

@@ -11,7 +11,7 @@ use desk_events::EventLog;
 use desk_log::StateStore;
 use desk_peers::{PeerQueue, PeerQueues, open_queues};
 use desk_published::BoardName;
-use desk_threads::{Keeper, KeeperGuard, Out, TURN_ITEMS};
+use desk_threads::{Keeper, KeeperGuard, Out, SavedNode, TURN_ITEMS};
 use desk_types::{Packet, Refusal, WantOfMemory};
 use std::alloc::Global;
 use std::sync::Wait;
@@ -35,7 +35,7 @@ pub struct QueuedPackets<W: Wait + Drop> {
     catching_up: CatchingUp<W>,
 }
 
-// It is written out, so that a caller does not prove again how each part is dropped.
+// Written out, so that callers need not prove each part's drop.
 impl<W: Wait + Drop> Drop for QueuedPackets<W> {
     fn drop(self) {
         let QueuedPackets {
@@ -80,7 +80,7 @@ pub(crate) type KeeperThread<S> = PromisedHandle<NodeEnd<S>, EndsByStore>;
 /// Runs the keeper to its end.
 fn keep<B: BoardName, S: StateStore + Drop, R: Wait + Drop>(
     rt: &R,
-    guard: KeeperGuard<B, S, R>,
+    guard: KeeperGuard<B, SavedNode<S>, R>,
     out: QueuedPackets<R>,
 ) -> NodeEnd<S>
     requires running { guard.keeper.value.stopped ≡ false }
@@ -89,9 +89,10 @@ fn keep<B: BoardName, S: StateStore + Drop, R: Wait + Drop>(
 {
     let mut out = out;
     let (keeper, outcome) = guard.into_keeper().run_turns(rt, TURN_ITEMS, &mut out);
-    let (taker, preserved, store) = keeper.end(rt);
+    let (taker, preserved) = keeper.end(rt);
+    let (owned, store) = preserved.into_parts();
     drop(taker);
-    drop(preserved);
+    drop(owned);
     NodeEnd {
         store: Some(store),
         outcome,
@@ -109,7 +110,7 @@ pub(crate) fn start_keeper<
     alloc: Global,
     id: u8,
     n: u8,
-    keeper: Keeper<B, S>,
+    keeper: Keeper<B, SavedNode<S>>,
     log: EventLog,
 ) -> Result<(KeeperThread<S>, Vec<PeerQueue>), WantOfMemory>
     requires group { IsGroup n }

@@ -30,7 +30,7 @@ pub(crate) struct NodeStart<S> {
     /// Holds its state.
     pub(crate) store: S,
     pub(crate) ends: EndFlag,
-    /// Where its events are told.
+    /// Where its events are announced.
     pub(crate) log: EventLog,
 }
 

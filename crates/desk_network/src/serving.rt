@@ -15,7 +15,7 @@ use desk_types::{Refusal, WantOfMemory};
 use std::alloc::Global;
 use std::io::{Input, Write};
 
-/// One flag, by which a node is told to end.
+/// One flag, by which a node is asked to end.
 struct EndFlags {
     /// For who serves.
     own: EndFlag,
@@ -37,7 +37,7 @@ impl EndFlags {
 /// A node that was started.
 struct ServedNode<S: StateStore> {
     keeper: KeeperThread<S>,
-    /// Whether `ready` was told.
+    /// Whether `ready` was written.
     reported: Result<(), Refusal>,
 }
 
@@ -49,7 +49,7 @@ pub(crate) fn tell_ready<W: Write>(writer: &mut W) -> Result<(), Refusal>
     flush(writer)
 }
 
-/// Starts the node whose state the store holds, and tells that it is ready. Where that can't be told, it is to end.
+/// Starts the node whose state the store holds, and writes that it is ready. Where that can't be written, it is to end.
 fn start_serving<S: StateStore + Drop + Send + 'static, R: NodeRuntime + Input, W: Write>(
     rt: &R,
     alloc: Global,
@@ -103,8 +103,8 @@ fn unwatched<S, R: Drop>(watched: Option<WatchedStore<S, R>>) -> Option<S>
 }
 
 /// Serves as the node whose state a store keeps, until the standard input ends or the store fails; `ready` is written
-/// once the node serves. It ends by 40 where memory is refused at the start, by 41 where the store fails, and by 44
-/// where `ready` could not be written.
+/// once the node serves. It ends by `WantOfMemory` where memory is refused at the start, by `StoreFault` where the
+/// store fails, and by `WriteFault` where `ready` could not be written.
 pub fn serve_node<S: StateStore + Drop + Send + 'static, R: NodeRuntime + Input, W: Write>(
     rt: &R,
     alloc: Global,

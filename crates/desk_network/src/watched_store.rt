@@ -1,8 +1,9 @@
-//! The store of a node whose saves are told.
+//! The store of a node whose saves are announced.
 
 ghost use Rattle.std.specs.Prelude.{◌≡◌, ◌<◌};
+ghost use Rattle.std.specs.Option.{option_map};
 ghost use Rattle.desk_log.specs.Quorum.{primary};
-ghost use Rattle.desk_network.specs.Watched.{view_begun};
+ghost use Rattle.desk_network.specs.Watched.{view_begun, view_event, view_after};
 
 use desk_events::{Event, EventLog};
 use desk_log::{Saved, StateStore};
@@ -11,23 +12,23 @@ use std::rt::Clock;
 use std::sync::Wait;
 use std::time::Instant;
 
-/// A save that takes longer is told, in milliseconds.
+/// A save that takes longer is announced, in milliseconds.
 const SLOW_SAVE_MILLISECONDS: u64 = 100;
 
-/// What is told of the states that a node saves.
+/// What is announced of the states that a node saves.
 pub(crate) struct SaveNews<R> {
     rt: R,
     log: EventLog,
     /// How many nodes its group has.
     nodes: u8,
-    /// The view that was told last, where one was.
+    /// The view that was announced last, where one was.
     view: Option<u64>,
     /// How many entries the log had that was saved last, where one was.
     entries: Option<u64>,
     ghost some: { 0 < nodes },
 }
 
-// It is written out, so that a caller does not prove again how each part is dropped.
+// Written out, so that callers need not prove each part's drop.
 impl<R: Drop> Drop for SaveNews<R> {
     fn drop(self) {
         let SaveNews {
@@ -40,7 +41,7 @@ impl<R: Drop> Drop for SaveNews<R> {
     }
 }
 
-/// The view of a saved state, where the node is normal in it, and it is not the one that was told last.
+/// The view of a saved state, where the node is normal in it, and it is not the one that was announced last.
 fn view_begun(last: Option<u64>, saved: &Saved) -> Option<u64>
     ensures { result ≡ view_begun last saved.now }
 {
@@ -99,6 +100,17 @@ impl<R: Clock + Wait> SaveNews<R> {
         self.entries = Some(entries);
     }
 
+    /// What is to be announced of the view of a state that was saved, where it begins.
+    fn view_news(&mut self, saved: &Saved) -> Option<Event>
+        ensures event { result ≡ option_map (view_event self.old.nodes) (view_begun self.old.view saved.now) }
+        ensures view { self.new.view ≡ view_after self.old.view saved.now }
+    {
+        let view = view_begun(self.view, saved)?;
+        self.view = Some(view);
+        let leader = self.leader(view);
+        Some(Event::View { view, leader })
+    }
+
     /// Tells of a state that was saved, where there is a log.
     fn tell_saved(&mut self, begun: Option<Instant>, saved: &Saved) {
         if !self.log.tells() {
@@ -108,23 +120,21 @@ impl<R: Clock + Wait> SaveNews<R> {
             self.tell_time(begun);
         }
         self.tell_entries(saved.log().len());
-        if let Some(view) = view_begun(self.view, saved) {
-            self.view = Some(view);
-            let leader = self.leader(view);
-            self.log.tell(&self.rt, Event::View { view, leader });
+        if let Some(event) = self.view_news(saved) {
+            self.log.tell(&self.rt, event);
             // Who asked for entries at a change of view may have lacked none.
             self.log.tell_level(&self.rt, saved.log().len());
         }
     }
 }
 
-/// A store of which it is told how long saves take, and in which views the node is normal.
+/// A store of which it is announced how long saves take, and in which views the node is normal.
 pub(crate) struct WatchedStore<S, R> {
     store: S,
     news: SaveNews<R>,
 }
 
-// It is written out, so that a caller does not prove again how each part is dropped.
+// Written out, so that callers need not prove each part's drop.
 impl<S: Drop, R: Drop> Drop for WatchedStore<S, R> {
     fn drop(self) {
         let WatchedStore { store: _, news: _ } = self;
