@@ -23,7 +23,7 @@ pub struct Hosts {
     text: Option<String>,
 }
 
-// It is written out, so that a caller does not prove again how each part is dropped.
+// Written out, so that callers need not prove each part's drop.
 impl Drop for Hosts {
     fn drop(self) {
         let Hosts { text: _ } = self;
@@ -76,7 +76,7 @@ pub struct GroupAddress {
     pub key: Option<Key>,
 }
 
-// It is written out, so that a caller does not prove again how each part is dropped.
+// Written out, so that callers need not prove each part's drop.
 impl Drop for GroupAddress {
     fn drop(self) {
         let GroupAddress {

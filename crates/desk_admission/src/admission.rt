@@ -29,7 +29,7 @@ pub struct AdmittedEnd {
     ghost sends: { keys.sending.block.value ≡ toward_initiator key.value.block.value hello nonce },
 }
 
-// It is written out, so that a caller does not prove again how each part is dropped.
+// Written out, so that callers need not prove each part's drop.
 impl Drop for AdmittedEnd {
     fn drop(self) {
         let AdmittedEnd {

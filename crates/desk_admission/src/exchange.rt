@@ -32,7 +32,7 @@ pub struct RecordKeys {
     pub sending: HmacKey,
 }
 
-// It is written out, so that a caller does not prove again how each part is dropped.
+// Written out, so that callers need not prove each part's drop.
 impl Drop for RecordKeys {
     fn drop(self) {
         let RecordKeys {

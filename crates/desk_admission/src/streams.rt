@@ -23,7 +23,7 @@ pub struct KeyedPort {
     pub endpoint: Endpoint,
 }
 
-// It is written out, so that a caller does not prove again how each part is dropped.
+// Written out, so that callers need not prove each part's drop.
 impl Drop for KeyedPort {
     fn drop(self) {
         let KeyedPort {
@@ -65,7 +65,7 @@ pub struct AdmittedStream<I: Read, O: Write> {
     end: Snapshot<AdmittedEnd>,
 }
 
-// It is written out, so that a caller does not prove again how each part is dropped.
+// Written out, so that callers need not prove each part's drop.
 impl<I: Read + Drop, O: Write + Drop> Drop for AdmittedStream<I, O> {
     fn drop(self) {
         let AdmittedStream {

@@ -81,6 +81,7 @@ impl<A: Allocator> Block<A> {
     }
 }
 
+// Its memory goes back to the allocator.
 impl<A: Allocator> Drop for Block<A> {
     fn drop(self) {
         let Block {

@@ -11,7 +11,7 @@ use Rattle.desk_board.specs.BoardValue.{BoardValue, empty_board}
 abbrev pub row_in : ℕ × LatestRow → Row
 row_in e = record { client = e.0; number = e.1.number; place = e.1.place; reply = e.1.reply }
 
--- what is told of a client's latest request
+-- what is reported of a client's latest request
 abbrev pub last_in : LatestRow → ℕ × ℕ × Reply
 last_in row = (row.number, row.place, row.reply)
 

@@ -28,7 +28,7 @@ pub struct Board {
     alloc: Global,
 }
 
-// It is written out, so that a caller does not prove again how each part is dropped.
+// Written out, so that callers need not prove each part's drop.
 impl Drop for Board {
     fn drop(self) {
         let Board {

@@ -28,7 +28,7 @@ pub(crate) struct LatestRow {
     pub(crate) reply: Reply,
 }
 
-// It is written out, so that a caller does not prove again how each part is dropped.
+// Written out, so that callers need not prove each part's drop.
 impl Drop for LatestRow {
     fn drop(self) {
         let LatestRow {

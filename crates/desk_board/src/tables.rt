@@ -24,7 +24,7 @@ pub(crate) struct Tables {
     pub(crate) alloc: Global,
 }
 
-// It is written out, so that a caller does not prove again how each part is dropped.
+// Written out, so that callers need not prove each part's drop.
 impl Drop for Tables {
     fn drop(self) {
         let Tables {

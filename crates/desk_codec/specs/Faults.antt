@@ -1,4 +1,4 @@
--- Faults of fields, and the refusals that they come from and are told as.
+-- Faults of fields, and the refusals that they come from and are reported as.
 use Rattle.std.specs.Prelude.{if◌then◌else◌}
 use Rattle.desk_types.specs.Refusal.{is_want_of_memory}
 use Rattle.desk_types.specs.declared.refusal.Refusal.{Refusal}
@@ -6,7 +6,7 @@ use Rattle.desk_types.specs.declared.refusal.Refusal.TheVariants as refusals
 use Rattle.desk_codec.specs.declared.fault.SpellingFault.{SpellingFault}
 use Rattle.desk_codec.specs.declared.fault.SpellingFault.TheVariants.{NoSpelling, NoMemory}
 
--- 42 or 40
+-- `FrameFault` or `WantOfMemory`
 abbrev pub refusal_of : SpellingFault → Refusal
 refusal_of NoSpelling = refusals.FrameFault
 refusal_of NoMemory = refusals.WantOfMemory

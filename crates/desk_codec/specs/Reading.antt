@@ -29,7 +29,7 @@ use Rattle.desk_codec.specs.declared.fault.SpellingFault.TheVariants.{NoSpelling
 abbrev pub Reader : Type 0 → Type 0
 Reader A = List ℕ → Option (A × List ℕ)
 
--- A fault is told where nothing was read, or where memory was refused.
+-- A fault is reported where nothing was read, or where memory was refused.
 abbrev pub Fails : {Y : Type 0} → SpellingFault → Option Y → Type 0
 Fails NoMemory read = Unit {0}
 Fails NoSpelling read = read ≡ None

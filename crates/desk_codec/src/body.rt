@@ -257,8 +257,8 @@ pub(crate) fn read_whole_body(alloc: Global, bytes: &[u8]) -> Result<Command, Sp
     }
 }
 
-/// The command that the bytes spell, all of them. Refused are bytes that are no spelling, by 42, and want of memory,
-/// by 40.
+/// The command that the bytes spell, all of them. Refused are bytes that are no spelling, by `FrameFault`, and want of
+/// memory, by `WantOfMemory`.
 pub fn get_body(alloc: Global, bytes: &[u8]) -> Result<Command, FrameFault>
     // What is read is spelled so.
     ensures found { IfOk result (λ c. SpellsBody c bytes.now) }

@@ -23,7 +23,7 @@ struct EntryHead {
     body: usize,
 }
 
-/// An entry's head, which is one field: a fault in it is told with its last byte.
+/// An entry's head, which is one field: a fault in it is reported with its last byte.
 #[tactic(auto, unfolding(crate::specs::Entries::front_entry_head))]
 fn read_entry_head(bytes: &[u8]) -> Result<EntryHead, Lack>
     ensures { GivesFront (λ head. head) result (front_entry_head bytes.now) }
@@ -109,7 +109,7 @@ pub fn front_entry(
 }
 
 /// The entry that a prefix of the bytes spells, and the length of that prefix. Refused are bytes that begin with no
-/// spelling, by 42, and want of memory, by 40.
+/// spelling, by `FrameFault`, and want of memory, by `WantOfMemory`.
 pub fn get_entry(alloc: Global, bytes: &[u8]) -> Result<(Entry, usize), FrameFault>
     ensures within { IfOk result (λ x. x.1 ≤ length bytes.now) }
     // What is read is spelled so.

@@ -47,7 +47,7 @@ pub enum Lack {
     NoSpelling,
 }
 
-/// Why bytes gave no value: 42 where they are no spelling, 40 where the allocator refused memory.
+/// Why bytes gave no value: `FrameFault` where they are no spelling, `WantOfMemory` where the allocator refused memory.
 #[derive(Drop, Error)]
 #[error("{} {}", .refusal.number(), .refusal.name())]
 pub struct FrameFault {

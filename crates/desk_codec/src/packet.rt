@@ -152,7 +152,7 @@ fn whole_packet(alloc: Global, bytes: &[u8]) -> Result<Option<Packet>, WantOfMem
 }
 
 /// The packet that the bytes after a frame's length spell, all of them. Refused are bytes that are no spelling, by
-/// 42, and want of memory, by 40.
+/// `FrameFault`, and want of memory, by `WantOfMemory`.
 pub fn get_packet(alloc: Global, bytes: &[u8]) -> Result<Packet, FrameFault>
     // What is read is spelled so.
     ensures found { IfOk result (λ m. SpellsPacket m bytes.now) }

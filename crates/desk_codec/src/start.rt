@@ -135,7 +135,7 @@ fn read_start(bytes: &[u8]) -> Result<(PacketStart, &[u8]), Lack>
 }
 
 /// What stands before a packet's entries, and how many bytes it has, 11 to 31; or whether more bytes are needed, or no
-/// packet begins so. The ranges are tested field by field, so a fault is told with its field's last byte.
+/// packet begins so. The ranges are tested field by field, so a fault is reported with its field's last byte.
 pub fn front_start(bytes: &[u8]) -> Result<(PacketStart, usize), Lack>
     ensures { FrontStart bytes.now result }
 {

@@ -146,7 +146,7 @@ command_members client n (replies.Done place word incident) =
 command_members client n (replies.Refused place r) =
     refusal_members r ((codes "number", count n) ∷ (codes "place", count place) ∷ []) (session_member client)
 
--- An incident that is shown is told in four parts: up to what it was merged into,
+-- An incident that is shown is written in four parts: up to what it was merged into,
 abbrev pub first_values : ShownIncident → List ReplyMember
 first_values i =
     (codes "calls", texts i.calls) ∷ (codes "incident", text i.id)

@@ -13,7 +13,7 @@ pub data Seen : Type 0 where
   negative : Seen
   other : Seen
 
--- what is seen of a number; one that is not kept as a whole number is something else
+-- what is seen of a number; one that is not held as a whole number is something else
 abbrev pub seen_number : Num → Seen
 seen_number (json.unsigned n) = natural n
 seen_number (json.negative z) = negative

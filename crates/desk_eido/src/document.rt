@@ -19,8 +19,9 @@ use std::alloc::Global;
 /// What a copied document asks for. The node is one that `copy_document` answered, and still the last in the arena.
 ///
 /// It is refused with the first that holds of these, member by member in the order of the verb, from `do` on: the
-/// member is missing or null (3), of the wrong kind (4), an unknown verb (6), out of its range (5), no identifier of
-/// its kind (7), no instant (8). Where memory is refused the answer is 40.
+/// member is missing or null (`Missing`), of the wrong kind (`WrongKind`), an unknown verb (`UnknownVerb`), out of its
+/// range (`OutOfRange`), no identifier of its kind (`BadIdentifier`), no instant (`BadTime`). Where memory is refused
+/// the answer is `WantOfMemory`.
 #[tactic(auto, unfolding(crate::specs::Reading::ask_of))]
 pub fn command_of(alloc: Global, id: NodeId, arena: &DocArena) -> Result<Ask, Refusal>
     requires { IsCopied id arena.now }

@@ -7,7 +7,7 @@ pub(crate) const TRUTH_VALUE: u32 = 1;
 pub(crate) const NATURAL: u32 = 2;
 /// A negative whole number.
 pub(crate) const NEGATIVE: u32 = 3;
-/// A number that is not kept as a whole number.
+/// A number that is not held as a whole number.
 pub(crate) const OTHER_NUMBER: u32 = 4;
 
 pub(crate) const TEXT: u32 = 5;

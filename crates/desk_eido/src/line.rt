@@ -50,9 +50,10 @@ fn document_of(alloc: Global, line: &[u8]) -> Result<Value, Refusal>
 /// Copies the JSON object of a line into the arena, after what that holds, and answers its node. The line has no
 /// newline.
 ///
-/// It is refused with the first that holds of these: it is longer than 65,536 bytes (2), it is no JSON object (1),
-/// the copy does not fit what is left of the arena (9). Where memory is refused the answer is 40. Where it is refused
-/// with 9 the arena holds a beginning of the copy after what it held; with any other it is as it was.
+/// It is refused with the first that holds of these: it is longer than 65,536 bytes (`TooLong`), it is no JSON object
+/// (`NotJson`), the copy does not fit what is left of the arena (`NoRoom`). Where memory is refused the answer is
+/// `WantOfMemory`. Where it is refused with `NoRoom` the arena holds a beginning of the copy after what it held; with
+/// any other it is as it was.
 #[tactic(auto, unfolding(crate::specs::Reading::fitted_document))]
 pub fn copy_document(alloc: Global, line: &[u8], arena: &mut DocArena) -> Result<NodeId, Refusal>
     ensures copied { CopiesAs result arena.old arena.new (fitted_document (room arena.old) line.now) }
@@ -79,10 +80,11 @@ pub fn copy_document(alloc: Global, line: &[u8], arena: &mut DocArena) -> Result
 /// the document's copy alone, whatever is refused of its members; a beginning of the copy where it does not fit; and
 /// nothing where the line is no document.
 ///
-/// It is refused with the first that holds of these: it is longer than 65,536 bytes (2), it is no JSON object (1),
-/// its copy does not fit the arena (9), and then, member by member in the order of the verb, from `do` on: the member
-/// is missing or null (3), of the wrong kind (4), an unknown verb (6), out of its range (5), no identifier of its
-/// kind (7), no instant (8). Where memory is refused the answer is 40.
+/// It is refused with the first that holds of these: it is longer than 65,536 bytes (`TooLong`), it is no JSON object
+/// (`NotJson`), its copy does not fit the arena (`NoRoom`), and then, member by member in the order of the verb, from
+/// `do` on: the member is missing or null (`Missing`), of the wrong kind (`WrongKind`), an unknown verb
+/// (`UnknownVerb`), out of its range (`OutOfRange`), no identifier of its kind (`BadIdentifier`), no instant
+/// (`BadTime`). Where memory is refused the answer is `WantOfMemory`.
 #[tactic(auto, unfolding(crate::specs::Reading::ask_on_line))]
 pub fn read_document(alloc: Global, line: &[u8], arena: &mut DocArena) -> Result<Ask, Refusal>
     ensures reads { ReadsAs result (ask_on_line arena.old.capacity line.now) }

@@ -1,4 +1,4 @@
-//! A list of incidents and units, told in a reply.
+//! A list of incidents and units, written in a reply.
 
 ghost use Rattle.std.specs.Prelude.{◌≡◌, IfOk, codes, map, option_map};
 ghost use Rattle.desk_types.specs.declared.show.Shown.TheVariants as shows;

@@ -43,7 +43,7 @@ pub(crate) fn member_text<'a>(document: &Document<'a>, member: Member) -> Result
     text_seen(seen_at(document, member)?, member)
 }
 
-/// The number, where one is seen under a member and is kept as a whole number. A negative one is out of every range.
+/// The number, where one is seen under a member and is held as a whole number. A negative one is out of every range.
 pub(crate) fn natural_seen(seen: Seen<'_>, member: Member) -> Result<u64, Refusal>
     ensures { GivesResult (λ n. n) result (as_natural member (seen_view seen.entry)) }
 {

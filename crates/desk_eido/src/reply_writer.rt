@@ -16,7 +16,7 @@ use std::marker::Model;
 /// The bytes that a reply has room for from the first.
 const FIRST_BYTES: usize = 160;
 
-/// A value that is told by its text.
+/// A value that is written as its text.
 pub(crate) trait Named {
     ghost use Rattle.std.specs.Prelude.{ℕ, List};
 
@@ -50,7 +50,7 @@ impl Named for UnitName {
     }
 }
 
-/// A value that is told by an object of its own.
+/// A value that is written as an object of its own.
 pub(crate) trait Row {
     ghost use Rattle.std.specs.Prelude.{List};
     ghost use Rattle.desk_eido.specs.ReplyLine.{ReplyMember};
@@ -68,7 +68,7 @@ pub(crate) struct ReplyWriter {
     out: Writer,
 }
 
-// It is written out, so that a caller does not prove again how each part is dropped.
+// Written out, so that callers need not prove each part's drop.
 impl Drop for ReplyWriter {
     fn drop(self) {
         let ReplyWriter { out: _ } = self;

@@ -8,6 +8,6 @@ pub(crate) enum Seen<'a> {
     Natural(u64),
     /// A negative whole number.
     Negative,
-    /// A truth value, a number that is not kept as a whole number, a list or an object.
+    /// A truth value, a number that is not held as a whole number, a list or an object.
     Other,
 }

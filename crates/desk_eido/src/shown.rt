@@ -1,4 +1,4 @@
-//! What a show is shown, told in a reply.
+//! What a show is shown, written in a reply.
 
 ghost use Rattle.std.specs.Prelude.{◌≡◌, [], IfOk, codes, unwrap_or};
 ghost use Rattle.desk_types.specs.declared.show.Shown.TheVariants as shows;

@@ -82,7 +82,7 @@ epoch_packets_of old logs (steps.Tell to epoch base) =
     telling_packets to epoch (past_packet old.node.id base (slice_get logs epoch))
 epoch_packets_of old logs (steps.Began log packets) = map (in_epoch (old.epoch + 1)) packets.items
 
--- the past logs of a node after a step: a log that it was told is put last
+-- the past logs of a node after a step: a log that it was sent is put last
 abbrev pub logs_after : List (List Entry) → EpochStep → List (List Entry)
 logs_after logs steps.Nothing = logs
 logs_after logs (steps.Own step) = logs

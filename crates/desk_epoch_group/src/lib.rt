@@ -7,7 +7,7 @@ ghost use Rattle.desk_epoch_group.specs.Agreement.{NodeRepliesAgree, NodeEntries
 
 /// What is true of every group of three or five nodes over epochs, whatever comes to them in whatever order, as long as
 /// each packet that comes to a node was sent to it before: packets may be lost, repeated and reordered, and nodes
-/// suspect, start again, begin the next epoch where it is due, and are told past logs. It does nothing: its clauses are
+/// suspect, start again, begin the next epoch where it is due, and are sent past logs. It does nothing: its clauses are
 /// the facts.
 pub fn group()
     // What the nodes do are steps of a desk of which `desk_epochs::agreement` speaks; later too.

@@ -18,7 +18,7 @@ use Rattle.desk_epoch_peers.specs.declared.header.EpochHeader.{EpochHeader}
 use Rattle.desk_epoch_peers.specs.declared.header.TheConstants.{HEADER_MARK}
 use Rattle.desk_epoch_peers.specs.Headers.{purpose_number, purpose_of, is_step, is_first, header_bytes}
 use Rattle.desk_epoch_peers.specs.Headers.{header_spelling, FitsHeader, HasHeader, HasNoHeader, FramesBeginNoHeader}
-use Rattle.desk_epoch_peers.specs.Headers.{HeadersAreOne, HeadersAreTold, StreamsAreOne}
+use Rattle.desk_epoch_peers.specs.Headers.{HeadersAreOne, HeadersAreWritten, StreamsAreOne}
 
 -- the mark of a header
 abbrev pub mark : List ℕ
@@ -40,12 +40,12 @@ mark_first bytes more others h le e =
     ap (from_be_bytes w32) front ∙ mark_number
 
 -- a header that is told
-pub told : (h : EpochHeader) → is_first h ≡ false → header_spelling h ≡ header_bytes h
-told h e = ap (λ b. if b then [] else header_bytes h) e
+pub header_written : (h : EpochHeader) → is_first h ≡ false → header_spelling h ≡ header_bytes h
+header_written h e = ap (λ b. if b then [] else header_bytes h) e
 
 -- that of the first epoch's steps
-pub untold : (h : EpochHeader) → is_first h ≡ true → header_spelling h ≡ []
-untold h e = ap (λ b. if b then [] else header_bytes h) e
+pub header_unwritten : (h : EpochHeader) → is_first h ≡ true → header_spelling h ≡ []
+header_unwritten h e = ap (λ b. if b then [] else header_bytes h) e
 
 pub frame_no_header : PacketsFit → (m : Message) (h : EpochHeader) (more others : List ℕ) → FitsMessage m →
     frame_spelling m ++ more ≡ header_bytes h ++ others → ⊥
@@ -59,7 +59,7 @@ frame_no_header fit m h more others f e =
 
 pub frames_begin_no_header : PacketsFit → FramesBeginNoHeader
 frames_begin_no_header fit m h more others f is e =
-    frame_no_header fit m h more others f (e ∙ ap (λ t. t ++ others) (told h is))
+    frame_no_header fit m h more others f (e ∙ ap (λ t. t ++ others) (header_written h is))
 
 -- a purpose has one number
 
@@ -94,9 +94,9 @@ first_is h e =
 
 -- bytes begin with one header that is told
 
-pub told_one : (g h : EpochHeader) (r s : List ℕ) → FitsHeader g → FitsHeader h →
+pub written_one : (g h : EpochHeader) (r s : List ℕ) → FitsHeader g → FitsHeader h →
     header_bytes g ++ r ≡ header_bytes h ++ s → (g ≡ h) × (r ≡ s)
-told_one g h r s f k e =
+written_one g h r s f k e =
     let cut : after_mark g ++ r ≡ after_mark h ++ s = sym (drop_at mark (after_mark g ++ r) 4 refl)
     ∙ ap (drop 4) (sym (append_assoc mark (after_mark g) r) ∙ e ∙ append_assoc mark (after_mark h) s)
     ∙ drop_at mark (after_mark h ++ s) 4 refl in
@@ -122,7 +122,7 @@ one_as : (g h : EpochHeader) (bytes : List ℕ) (b c : Bool) → is_first g ≡ 
 one_as g h bytes true true e d f k p q = first_is g e ∙ sym (first_is h d)
 one_as g h bytes true false e d f k p q = absurd (p h q.0 d k q.1)
 one_as g h bytes false true e d f k p q = absurd (q g p.0 e f p.1)
-one_as g h bytes false false e d f k p q = (told_one g h p.0 q.0 f k (sym p.1 ∙ q.1)).0
+one_as g h bytes false false e d f k p q = (written_one g h p.0 q.0 f k (sym p.1 ∙ q.1)).0
 
 pub headers_are_one : HeadersAreOne
 headers_are_one g h bytes f k p q = one_as g h bytes (is_first g) (is_first h) refl refl f k p q
@@ -134,14 +134,14 @@ frames_no_header fit [] h others f e = let stuck : ⊥ = cc in stuck
 frames_no_header fit (m ∷ ms) h others f e =
     frame_no_header fit m h (frames_spelling ms) others f.0 (sym (flat_map-cons frame_spelling m ms) ∙ e)
 
-told_as : PacketsFit → (h : EpochHeader) (ms : List Message) (b : Bool) → is_first h ≡ b → AreFit ms →
+written_as : PacketsFit → (h : EpochHeader) (ms : List Message) (b : Bool) → is_first h ≡ b → AreFit ms →
     Has b h (header_spelling h ++ frames_spelling ms)
-told_as fit h ms true e f = λ g others other k is.
-    frames_no_header fit ms g others f (sym (ap (λ t. t ++ frames_spelling ms) (untold h e)) ∙ is)
-told_as fit h ms false e f = (frames_spelling ms, ap (λ t. t ++ frames_spelling ms) (told h e))
+written_as fit h ms true e f = λ g others other k is.
+    frames_no_header fit ms g others f (sym (ap (λ t. t ++ frames_spelling ms) (header_unwritten h e)) ∙ is)
+written_as fit h ms false e f = (frames_spelling ms, ap (λ t. t ++ frames_spelling ms) (header_written h e))
 
-pub headers_are_told : PacketsFit → HeadersAreTold
-headers_are_told fit h ms f = told_as fit h ms (is_first h) refl f
+pub headers_written : PacketsFit → HeadersAreWritten
+headers_written fit h ms f = written_as fit h ms (is_first h) refl f
 
 -- frames are of one list of packets
 frames_one : FramesBeginNone → (ms ns : List Message) → AreFit ms → AreFit ns →
@@ -174,5 +174,5 @@ after_header fit g h ms ns f k same e =
 pub streams_are_one : FramesBeginNone → PacketsFit → StreamsAreOne
 streams_are_one law fit g h ms ns f k am an e =
     let same : g ≡ h = headers_are_one g h (header_spelling g ++ frames_spelling ms) f k
-    (headers_are_told fit g ms am) (subst (HasHeader h) (sym e) (headers_are_told fit h ns an)) in
+    (headers_written fit g ms am) (subst (HasHeader h) (sym e) (headers_written fit h ns an)) in
     (same, frames_one law ms ns am an (after_header fit g h ms ns f k same e))

@@ -43,7 +43,7 @@ use Rattle.desk_epoch_peers.specs.Incoming.{
   EndsFrames,
 }
 use Rattle.desk_epoch_peers.proofs.Putting.{put_none}
-use Rattle.desk_epoch_peers.proofs.Headers.{mark, told}
+use Rattle.desk_epoch_peers.proofs.Headers.{mark, header_written}
 
 -- ---- bytes that begin with no header, or with no frame
 
@@ -106,10 +106,10 @@ module _ (bytes : List ℕ) (len : length bytes ≡ HEADER_BYTES) where
   number_length = omega (arith, length-drop 1 rest, rest_length)
 
   -- are its header
-  pub told_bytes : (p : Purpose) → IsBytes bytes → from_be_bytes w32 (take 4 bytes) ≡ HEADER_MARK →
+  pub written_bytes : (p : Purpose) → IsBytes bytes → from_be_bytes w32 (take 4 bytes) ≡ HEADER_MARK →
       purpose_of (slice_index_or rest 0 0) ≡ Some p →
       bytes ≡ header_bytes (record { epoch = from_be_bytes w64 number; purpose = p })
-  told_bytes p fits is purpose =
+  written_bytes p fits is purpose =
       let front : length (take 4 bytes) ≡ 4 = omega (arith, length-take 4 bytes, len) in
       let mark_is : mark ≡ take 4 bytes =
       be_bytes_4 (take 4 bytes) HEADER_MARK front (IsBytes-take 4 bytes fits) (sym is) in
@@ -125,14 +125,14 @@ module _ (bytes : List ℕ) (len : length bytes ≡ HEADER_BYTES) where
   fits_number fits = wide64.below number (IsBytes-drop 1 rest (IsBytes-drop 4 bytes fits))
 
   -- as a reader of them says it
-  pub told_all : (e : ℕ) (p : Purpose) → e ≡ from_be_bytes w64 number → IsBytes bytes →
+  pub written_all : (e : ℕ) (p : Purpose) → e ≡ from_be_bytes w64 number → IsBytes bytes →
       from_be_bytes w32 (take 4 bytes) ≡ HEADER_MARK → purpose_of (slice_index_or rest 0 0) ≡ Some p →
       is_first (record { epoch = e; purpose = p }) ≡ false →
       (bytes ≡ header_spelling (record { epoch = e; purpose = p }))
       × (is_first (record { epoch = e; purpose = p }) ≡ false) × (e < 2 ^ 64)
-  told_all e p epoch fits is purpose other = (
-    told_bytes p fits is purpose ∙ ap (λ n. header_bytes (record { epoch = n; purpose = p })) (sym epoch)
-        ∙ sym (told (record { epoch = e; purpose = p }) other),
+  written_all e p epoch fits is purpose other = (
+    written_bytes p fits is purpose ∙ ap (λ n. header_bytes (record { epoch = n; purpose = p })) (sym epoch)
+        ∙ sym (header_written (record { epoch = e; purpose = p }) other),
     other,
     subst (λ n. n < 2 ^ 64) (sym epoch) (fits_number fits),
   )

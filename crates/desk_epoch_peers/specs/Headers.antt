@@ -32,7 +32,7 @@ is_step Tell = false
 abbrev pub is_first : EpochHeader → Bool
 is_first h = (h.epoch == 0) && is_step h.purpose
 
--- a header that is told: its mark, the number of its purpose, and its epoch
+-- a header that is written: its mark, the number of its purpose, and its epoch
 abbrev pub header_bytes : EpochHeader → List ℕ
 header_bytes h = to_be_bytes w32 HEADER_MARK ++ (purpose_number h.purpose ∷ long h.epoch)
 
@@ -48,12 +48,12 @@ header_of p = record { epoch = p.epoch; purpose = p.purpose }
 abbrev pub FitsHeader : EpochHeader → Type 0
 FitsHeader h = h.epoch < 2 ^ 64
 
--- However the bytes go on, no header that is told begins them.
+-- However the bytes go on, no header that is written begins them.
 abbrev pub BeginsNoHeader : List ℕ → Type 0
 BeginsNoHeader bytes = (h : EpochHeader) (more others : List ℕ) → is_first h ≡ false → FitsHeader h →
     bytes ++ more ≡ header_bytes h ++ others → ⊥
 
--- no whole header that is told stands at the beginning
+-- no whole header that is written stands at the beginning
 abbrev pub HasNoHeader : List ℕ → Type 0
 HasNoHeader bytes = (h : EpochHeader) (others : List ℕ) → is_first h ≡ false → FitsHeader h →
     bytes ≡ header_bytes h ++ others → ⊥
@@ -73,8 +73,8 @@ HeadersAreOne = (g h : EpochHeader) (bytes : List ℕ) → FitsHeader g → Fits
     HasHeader h bytes → g ≡ h
 
 -- A header and the frames of packets after it are a connection's bytes of that header.
-abbrev pub HeadersAreTold : Type 0
-HeadersAreTold = (h : EpochHeader) (ms : List Message) → AreFit ms →
+abbrev pub HeadersAreWritten : Type 0
+HeadersAreWritten = (h : EpochHeader) (ms : List Message) → AreFit ms →
     HasHeader h (header_spelling h ++ frames_spelling ms)
 
 -- A header and the frames of packets after it are read in one way.

@@ -79,8 +79,8 @@ fn purpose_of(number: u8) -> Option<Purpose>
     }
 }
 
-/// Writes a connection's header, which is nothing for the first epoch's steps. Where writing fails, that is 44, and a
-/// prefix of the header is written.
+/// Writes a connection's header, which is nothing for the first epoch's steps. Where writing fails, that is
+/// `WriteFault`, and a prefix of the header is written.
 pub(crate) fn write_header<W: Write>(connection: &mut W, header: EpochHeader) -> Result<(), Refusal>
     ensures ok { OnOk result
         (Appends (W.contents connection.old) (W.contents connection.new) (header_spelling header)) }
@@ -129,7 +129,7 @@ fn epoch_of(bytes: &[u8]) -> u64
 }
 
 /// The header that these bytes are, which begin with the mark.
-pub(crate) fn told_header(bytes: &[u8]) -> Option<EpochHeader>
+pub(crate) fn written_header(bytes: &[u8]) -> Option<EpochHeader>
     requires length { length bytes.now ≡ HEADER_BYTES }
     requires mark { from_be_bytes w32 (take MARK_BYTES bytes.now) ≡ HEADER_MARK }
     ensures some { IfSome result (λ h. (bytes.now ≡ header_spelling h) × (is_first h ≡ false) × FitsHeader h) }

@@ -134,9 +134,9 @@ fn take_frames<I: Read, P: PacketSink>(
 /// another one as its sender is left out; so is a packet of an ask that is no GetState of view 0, and one of a tell
 /// that is no NewState of view 0, from which no node takes anything.
 ///
-/// It ends early where nobody takes packets any more (34), where memory is refused (40), at bytes that neither a header
-/// nor a frame begins with (42), at a read that fails, an end inside the header or a frame, and after 4,294,967,295
-/// reads of frames (43).
+/// It ends early where nobody takes packets any more (`NodeStopped`), where memory is refused (`WantOfMemory`), at
+/// bytes that neither a header nor a frame begins with (`FrameFault`), at a read that fails, an end inside the header
+/// or a frame, and after 4,294,967,295 reads of frames (`ReadFault`).
 pub fn take_epoch_packets<I: Read, P: PacketSink>(
     alloc: Global,
     from: Option<u8>,

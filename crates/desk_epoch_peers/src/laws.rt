@@ -1,6 +1,6 @@
 //! Laws of headers.
 
-ghost use Rattle.desk_epoch_peers.specs.Headers.{FramesBeginNoHeader, HeadersAreOne, HeadersAreTold, StreamsAreOne};
+ghost use Rattle.desk_epoch_peers.specs.Headers.{FramesBeginNoHeader, HeadersAreOne, HeadersAreWritten, StreamsAreOne};
 
 use desk_codec::laws::spellings;
 
@@ -10,7 +10,7 @@ pub fn headers()
     ensures frames { FramesBeginNoHeader }
     // A connection's bytes say its header, and after that its packets.
     ensures one { HeadersAreOne }
-    ensures reported { HeadersAreTold }
+    ensures reported { HeadersAreWritten }
     ensures streams { StreamsAreOne }
 {
     spellings();

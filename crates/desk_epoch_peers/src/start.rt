@@ -10,7 +10,7 @@ ghost use Rattle.desk_epoch_peers.specs.Incoming.{HasFilled, FailsToFill, Begins
 ghost use Rattle.desk_epoch_peers.specs.declared.header.TheConstants.{HEADER_MARK, MARK_BYTES};
 
 use crate::header::{
-    EpochHeader, FIRST_HEADER, HEADER_BYTES, HEADER_MARK, MARK_BYTES, mark_of, told_header,
+    EpochHeader, FIRST_HEADER, HEADER_BYTES, HEADER_MARK, MARK_BYTES, mark_of, written_header,
 };
 use desk_codec::laws::spellings;
 use desk_frames::FrameReader;
@@ -26,8 +26,8 @@ pub(crate) struct StreamStart {
     pub(crate) bytes: Vec<u8>,
 }
 
-/// Reads on until so many bytes are there, or to the end of the stream. Refused are want of memory, by 40, and a read
-/// that fails, by 43.
+/// Reads on until so many bytes are there, or to the end of the stream. Refused are want of memory, by `WantOfMemory`,
+/// and a read that fails, by `ReadFault`.
 fn read_up_to<I: Read>(reader: &mut I, bytes: &mut Vec<u8>, count: usize) -> Result<(), Refusal>
     requires { length bytes.old.items ≤ count }
     ensures ok { OnOk result
@@ -46,8 +46,8 @@ fn read_up_to<I: Read>(reader: &mut I, bytes: &mut Vec<u8>, count: usize) -> Res
     Ok(())
 }
 
-/// Reads the rest of a header, whose mark was read. It is 42 where it has no purpose, or tells the first epoch's steps,
-/// and 43 where it is not whole.
+/// Reads the rest of a header, whose mark was read. It is `FrameFault` where it has no purpose, or tells the first
+/// epoch's steps, and `ReadFault` where it is not whole.
 fn read_header<I: Read>(reader: &mut I, mark: Vec<u8>) -> Result<EpochHeader, Refusal>
     requires length { length mark.items ≡ MARK_BYTES }
     requires mark { from_be_bytes w32 mark.items ≡ HEADER_MARK }
@@ -62,14 +62,15 @@ fn read_header<I: Read>(reader: &mut I, mark: Vec<u8>) -> Result<EpochHeader, Re
     if bytes.len() < HEADER_BYTES {
         return Err(Refusal::ReadFault);
     }
-    match told_header(bytes.as_slice()) {
+    match written_header(bytes.as_slice()) {
         Some(header) => Ok(header),
         None => Err(Refusal::FrameFault),
     }
 }
 
 /// Reads a stream's header, or its first four bytes where they are those of a frame; `None` where it has no byte.
-/// Refused are want of memory, by 40, a header that is none, by 42, and a read that fails or an end before that, by 43.
+/// Refused are want of memory, by `WantOfMemory`, a header that is none, by `FrameFault`, and a read that fails or an
+/// end before that, by `ReadFault`.
 pub(crate) fn read_start<I: Read>(
     alloc: Global,
     reader: &mut I,
@@ -102,8 +103,8 @@ pub(crate) fn read_start<I: Read>(
     }))
 }
 
-/// A reader of frames to which the first bytes of one were fed. Refused are want of memory, by 40, and bytes that no
-/// frame begins with, by 42.
+/// A reader of frames to which the first bytes of one were fed. Refused are want of memory, by `WantOfMemory`, and
+/// bytes that no frame begins with, by `FrameFault`.
 pub(crate) fn start_frames(alloc: Global, bytes: &[u8]) -> Result<FrameReader, Refusal>
     requires { length bytes.now ≤ MARK_BYTES }
     ensures standing { IfOk result (λ r. Holds r.standing bytes.now) }

@@ -345,10 +345,10 @@ begin_here domain ending sizes up entry bound d x top more within group can s h 
         ap (λ (ls : List (List Entry)). length ls) over.here
         ∙ (count_push (y.pasts node) cut ∙ ap suc is_in)
 
-    behind : (j : ℕ) → up j ≡ true → IsNewFor (joined_logs (y.pasts j)) (Request j entry)
-    behind j on =
+    beyond_pasts : (j : ℕ) → up j ≡ true → IsNewFor (joined_logs (y.pasts j)) (Request j entry)
+    beyond_pasts j on =
         subst (λ (ls : List (List Entry)). IsNewFor (joined_logs ls) (Request j entry)) (sym (h.pasts_are j))
-        (s.behind j on)
+        (s.beyond_pasts j on)
 
     -- the log that was committed was one beside which the request is new
     number : IsNewNumber own entry
@@ -363,7 +363,7 @@ begin_here domain ending sizes up entry bound d x top more within group can s h 
 
     new : IsNewFor (joined_logs (y.pasts node) ++ cut) (Request node entry)
     new =
-        new_append (joined_logs (y.pasts node)) cut node entry (behind node is_up)
+        new_append (joined_logs (y.pasts node)) cut node entry (beyond_pasts node is_up)
         (new_prefix cut own node entry (cut_is_prefix ending.ends ending.most own)
         (new_beside own node entry
         (committed_is_rising domain (sizes (epoch_of y node)) (y.runs (epoch_of y node)) node
@@ -394,7 +394,7 @@ begin_here domain ending sizes up entry bound d x top more within group can s h 
         goes_stage domain ending sizes up entry bound d y (s.count + h.count) node cut node group
         (steps_hold domain ending sizes up h.count x y group s.holds h.steps)
         (steps_on domain ending sizes up s.count h.count d x y s.steps h.steps) is_up (inr (inl (begins, is_up)))
-        runs_are behind new grown (λ j. by_node j (cases_eq j node))
+        runs_are beyond_pasts new grown (λ j. by_node j (cases_eq j node))
 
 serve_together : (domain : List ℕ) (ending : Ending) (sizes : ℕ → ℕ) (up : ℕ → Bool) (entry : Entry) (bound : ℕ)
     (d x : Epochs) (top : ℕ) → EndsWithinLog ending → ((epoch : ℕ) → IsGroup (sizes epoch)) →
@@ -420,7 +420,7 @@ serve_together domain ending sizes up entry bound d x top within group can s are
     happened : ((e : Entry) → IsRequested run.0 e → e ≡ entry) → Happened domain ending sizes up x top run.0
     happened alone =
         all_happen domain ending sizes up top run.0 x run.1
-        (event_new (joined_logs (x.pasts top)) entry run.0 (s.behind top s.top_up) alone)
+        (event_new (joined_logs (x.pasts top)) entry run.0 (s.beyond_pasts top s.top_up) alone)
 
     by_result : IsServedWithin ending (sizes epoch) (up_in up x epoch) run.0 (world_in domain sizes x epoch)
         (world domain (sizes epoch) (x.runs epoch ++ run.0)) entry
@@ -496,7 +496,7 @@ epochs_never_stuck domain ending sizes count d up entry within group lead can =
       holds = holds;
       top_up = top.2;
       runs_are = λ epoch l. refl;
-      behind = can.behind;
+      beyond_pasts = can.beyond_pasts;
       grown = λ i. omega arith;
       within = λ i. omega (arith, b.nodes i);
     } in

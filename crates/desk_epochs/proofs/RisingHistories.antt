@@ -15,7 +15,7 @@ use Rattle.desk_world.specs.declared.world_event.WorldEvent.{WorldEvent}
 use Rattle.desk_world.proofs.Agree.{committed_is_rising}
 use Rattle.desk_world.specs.Requested.{IsRequested}
 use Rattle.desk_epochs.specs.Histories.{Ending, epoch_log, committed_in, IsWholeEpoch, ArePast, history, AreNew, AskNew}
-use Rattle.desk_epochs.specs.Histories.{HistoriesRise, HistoryRepliesKept}
+use Rattle.desk_epochs.specs.Histories.{HistoriesRise, HistoryRepliesHeld}
 use Rattle.desk_world.proofs.Requested.{committed_is_requested}
 
 each_append : (P : Entry → Type 0) (xs ys : List Entry) → Each P xs → Each P ys → Each P (xs ++ ys)
@@ -85,6 +85,6 @@ pub histories_rise : HistoriesRise
 histories_rise domain ending sizes events past i group a new =
     rise_from domain ending sizes events i group 0 [] past a new nothing_rises
 
-pub history_replies_kept : HistoryRepliesKept
-history_replies_kept domain ending sizes events past i group a new k client =
+pub history_replies_held : HistoryRepliesHeld
+history_replies_held domain ending sizes events past i group a new k client =
     rows_are_latest domain (take k (history domain ending sizes events 0 past i)) client

@@ -122,7 +122,7 @@ leads (suc count) old new l =
 can_ask : CanAskDesk domain (λ epoch. 3) (λ i. not (i == 2)) happened.later (entry 7 2)
 can_ask = record {
   majority = λ epoch. omega arith;
-  behind = λ i on f place there same. absurd (nothing_there place f
+  beyond_pasts = λ i on f place there same. absurd (nothing_there place f
       (subst (λ (ls : List (List Entry)). entry_at (joined_logs ls) place ≡ Some f) (happened.pasts_are i) there));
   number = λ epoch i l on later. number epoch i l (cases_eq epoch 0);
   views = λ epoch i l. views epoch i l (cases_eq epoch 0);

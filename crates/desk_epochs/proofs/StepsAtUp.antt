@@ -163,7 +163,7 @@ pub record Stage (domain : List ℕ) (ending : Ending) (sizes : ℕ → ℕ) (up
   pub holds : Holds domain ending sizes x
   pub top_up : up top ≡ true
   pub runs_are : (epoch : ℕ) → epoch_of x top ≤ epoch → x.runs epoch ≡ d.runs epoch
-  pub behind : (i : ℕ) → up i ≡ true → IsNewFor (joined_logs (x.pasts i)) (Request i entry)
+  pub beyond_pasts : (i : ℕ) → up i ≡ true → IsNewFor (joined_logs (x.pasts i)) (Request i entry)
   pub grown : (i : ℕ) → epoch_of d i ≤ epoch_of x i
   pub within : (i : ℕ) → epoch_of x i ≤ max bound (epoch_of x top)
 
@@ -177,14 +177,14 @@ pub goes_stage : (domain : List ℕ) (ending : Ending) (sizes : ℕ → ℕ) (up
     IsNewFor (joined_logs (x.pasts i) ++ log) (Request i entry) → ((j : ℕ) → epoch_of d j ≤ epoch_of x j) →
     ((j : ℕ) → epoch_of (with_log x i log) j ≤ max bound (epoch_of (with_log x i log) last)) →
     Stage domain ending sizes up entry bound d (with_log x i log) last
-goes_stage domain ending sizes up entry bound d x count i log last group holds steps on next runs behind new
+goes_stage domain ending sizes up entry bound d x count i log last group holds steps on next runs beyond_pasts new
     grown within = record {
       count = count + 1;
       steps = steps_on domain ending sizes up count 1 d x y steps (y, next, refl);
       holds = next_holds domain ending sizes x y group holds (next_of domain ending sizes up x y next);
       top_up = on;
       runs_are = λ epoch l. over.runs_are epoch ∙ runs epoch l;
-      behind = λ j up_j. by_node j up_j (cases_eq j i);
+      beyond_pasts = λ j up_j. by_node j up_j (cases_eq j i);
       grown = λ j. by_count j (cases_eq j i);
       within = within;
     }
@@ -202,7 +202,7 @@ goes_stage domain ending sizes up entry bound d x count i log last group holds s
         ∙ (ap (λ (ls : List (List Entry)). joined_logs ls) over.here ∙ joined_push (x.pasts i) log))) new
     by_node j up_j (inr ne) =
         subst (λ (ls : List (List Entry)). IsNewFor (joined_logs ls) (Request j entry)) (sym (over.there j ne))
-        (behind j up_j)
+        (beyond_pasts j up_j)
 
     by_count : (j : ℕ) → (j ≡ i) ⊎ (j ≢ i) → epoch_of d j ≤ epoch_of y j
     by_count j (inl e) =
@@ -295,7 +295,7 @@ tell_once domain ending sizes up entry bound d x top i group s on less =
         (joined_push split.before split.log
         ∙ ap (λ (ls : List (List Entry)). joined_logs ls ++ split.log) (sym same))
         (new_prefix (joined_logs (split.before ++ split.log ∷ [])) (joined_logs (x.pasts top)) i entry begins
-        (s.behind top s.top_up))
+        (s.beyond_pasts top s.top_up))
 
     by_node : (j : ℕ) → (j ≡ i) ⊎ (j ≢ i) → epoch_of y j ≤ max bound (epoch_of y top)
     by_node j (inl e) =
@@ -320,7 +320,7 @@ tell_once domain ending sizes up entry bound d x top i group s on less =
     stage : Stage domain ending sizes up entry bound d y top
     stage =
         goes_stage domain ending sizes up entry bound d x s.count i split.log top group s.holds s.steps s.top_up
-        (inr (inr (reported, on, s.top_up))) (λ epoch l. s.runs_are epoch (omega (arith, l, top_is))) s.behind new
+        (inr (inr (reported, on, s.top_up))) (λ epoch l. s.runs_are epoch (omega (arith, l, top_is))) s.beyond_pasts new
         s.grown (λ j. by_node j (cases_eq j i))
 
 apart_by : (a b : ℕ) → a ≡ b → b < a → ⊥
@@ -379,7 +379,7 @@ restage domain ending sizes up entry bound d x top node s on further = record {
   holds = s.holds;
   top_up = on;
   runs_are = λ epoch l. s.runs_are epoch (omega (arith, l, further));
-  behind = s.behind;
+  beyond_pasts = s.beyond_pasts;
   grown = s.grown;
   within = λ i. omega (arith, s.within i, further);
 }

@@ -14,7 +14,7 @@ use Rattle.desk_world.specs.declared.world_event.WorldEvent.{WorldEvent}
 use Rattle.desk_world.specs.declared.world_event.WorldEvent.TheVariants.{Request, Deliver, Resend, Suspect, Restart}
 use Rattle.desk_epochs.specs.Histories.{Ending, epoch_log, has_ended, committed_in, history}
 
--- the events of each epoch, and of each node the logs of the epochs that it has behind it
+-- the events of each epoch, and of each node the logs of its past epochs
 pub record Epochs : Type 0 where
   pub runs : ℕ → List WorldEvent
   pub pasts : ℕ → List (List Entry)
@@ -41,7 +41,7 @@ IsNewFor log (Restart i) = Unit {0}
 abbrev pub epoch_of : Epochs → ℕ → ℕ
 epoch_of d i = length (d.pasts i)
 
--- An event happens in the epoch that a node is in; a request is new beside what that node has behind it.
+-- An event happens in the epoch that a node is in; a request is new beside that node's past logs.
 pub record HappensIn (old new : Epochs) : Type 0 where
   pub node : ℕ
   pub event : WorldEvent
@@ -50,7 +50,7 @@ pub record HappensIn (old new : Epochs) : Type 0 where
   pub there : (epoch : ℕ) → epoch ≢ epoch_of old node → new.runs epoch ≡ old.runs epoch
   pub pasts_are : (j : ℕ) → new.pasts j ≡ old.pasts j
 
--- A node has one more log behind it.
+-- A node has one more past log.
 pub record GoesOver (node : ℕ) (log : List Entry) (old new : Epochs) : Type 0 where
   pub here : new.pasts node ≡ old.pasts node ++ log ∷ []
   pub there : (j : ℕ) → j ≢ node → new.pasts j ≡ old.pasts j

@@ -96,6 +96,6 @@ abbrev pub HistoriesRise : Type 0
 HistoriesRise = OfHistories (λ domain log. IsRising log)
 
 -- The board of each prefix of it keeps each client's latest reply there.
-abbrev pub HistoryRepliesKept : Type 0
-HistoryRepliesKept = OfHistories (λ domain log. (k client : ℕ) →
+abbrev pub HistoryRepliesHeld : Type 0
+HistoryRepliesHeld = OfHistories (λ domain log. (k client : ℕ) →
     row_of client (board_of domain (take k log)) ≡ row domain client (take k log))

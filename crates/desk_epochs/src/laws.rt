@@ -2,7 +2,7 @@
 
 ghost use Rattle.desk_epochs.specs.Epochs.{EpochsAgree, EpochsRise, EpochBoardsAgree, EpochBoardsConsistent};
 ghost use Rattle.desk_epochs.specs.Epochs.{EpochIdentifiersStay, EpochRepliesAgree, EpochEntriesRequested};
-ghost use Rattle.desk_epochs.specs.Histories.{HistoriesAgree, HistoryBoardsAgree, HistoriesRise, HistoryRepliesKept};
+ghost use Rattle.desk_epochs.specs.Histories.{HistoriesAgree, HistoryBoardsAgree, HistoriesRise, HistoryRepliesHeld};
 ghost use Rattle.desk_epochs.specs.NeverStuck.{EpochNeverStuck, EpochsNeverStuck};
 ghost use Rattle.desk_epochs.specs.OneLog.{EpochsAreOneLog};
 
@@ -36,7 +36,7 @@ pub fn histories()
     // Where each epoch's requests are new, no numbered command is committed twice, in whatever epochs.
     ensures rising { HistoriesRise }
     // A board keeps each client's latest reply.
-    ensures rows { HistoryRepliesKept }
+    ensures rows { HistoryRepliesHeld }
 {}
 
 /// A desk over epochs is never stuck. Whatever happened to its nodes, and whichever of them are up, as long as more are

@@ -3,10 +3,9 @@ use Rattle.std.proofs.Common.{◌≡◌, ◌⊎◌, inl, inr, refl, subst, sym}
 use Rattle.sqlite_trees.specs.declared.store.Store.{Ghosts}
 use Rattle.sqlite.specs.State.{State, HasCleanDisk, IsUnchanged}
 use Rattle.sqlite.specs.Held.{Held, state}
-use Rattle.desk_saved.specs.AfterRefusal.{IsSettled, ShowsAsBefore, KeepsFaultsAndLimit}
-use Rattle.desk_saved.specs.Opening.{LeavesNoMore}
+use Rattle.desk_naming.specs.AfterRefusal.{IsSettled, ShowsAsBefore, KeepsFaultsAndLimit, LeavesNoMore}
 use Rattle.desk_saved.proofs.Opening.{shows_same}
-use Rattle.desk_saved.proofs.Refusing.{unchanged_shows}
+use Rattle.desk_naming.proofs.Refusing.{unchanged_shows}
 use Rattle.desk_file.specs.Reading.{IsLookedInto}
 
 -- a file that is not looked into is as it was

@@ -16,8 +16,8 @@ use Rattle.desk_types.specs.declared.refusal.Refusal.TheVariants as refusals
 use Rattle.desk_answer.specs.AnswerRun.{ServesOver, HasEndedRunBy}
 use Rattle.desk_file.specs.Reading.{IsLookedInto}
 
--- The answers were given over the file, or ended early, by the promise of `answer_database`. But for 45 its connection
--- is handed on as the answers left it; after 45 it was looked into, and no row of it was touched.
+-- The answers were given over the file, or ended early, by the promise of `answer_database`. But for `WrongFile` its
+-- connection is handed on as the answers left it; after `WrongFile` it was looked into, and no row of it was touched.
 pub record EndsAnswers {S T : Type 0} (g : Ghosts S) (owner : Owner) (before : Held S)
     (input left old new : Option (List ℕ)) (outcome : Result T Refusal) (last : Option (Held S)) : Type 0 where
   pub answered : Held S
@@ -26,8 +26,8 @@ pub record EndsAnswers {S T : Type 0} (g : Ghosts S) (owner : Owner) (before : H
   pub same : ¬ (outcome ≡ Err refusals.WrongFile) → last ≡ Some answered
   pub read : IfSome last (λ after. IsLookedInto (state g answered) (state g after))
 
--- The connection was closed, and left these two files: a crash has no new outcome. Where it is told that all that was
--- saved stands in the file, and the disk is clean, the last commit is in the database file, with and without a log.
+-- The connection was closed, and left these two files: a crash has no new outcome. Where it is reported that all that
+-- was saved stands in the file, and the disk is clean, the last commit is in the database file, with and without a log.
 pub record HasClosed {D : Type 0} {g : disk.Ghosts D} (connection : Held (FileStore D g)) (files : Files D)
     (is_whole : Bool) : Type 0 where
   pub last : FileStore D g

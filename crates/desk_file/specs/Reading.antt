@@ -1,7 +1,6 @@
 -- What becomes of a file that is looked into once the work over it has ended.
 use Rattle.sqlite.specs.State.{State, HasCleanDisk}
-use Rattle.desk_saved.specs.AfterRefusal.{IsSettled, ShowsAsBefore, KeepsFaultsAndLimit}
-use Rattle.desk_saved.specs.Opening.{LeavesNoMore}
+use Rattle.desk_naming.specs.AfterRefusal.{IsSettled, ShowsAsBefore, KeepsFaultsAndLimit, LeavesNoMore}
 
 -- No row of it is touched: a connection with no transaction of others shows the database as it was, and whatever stops
 -- the program then, the file is as it could be left before.

@@ -13,8 +13,8 @@ abbrev pub IsUnopened : {S : Type 0} → Ghosts S → Held S → Owner → Held 
 IsUnopened g before owner after refusal =
     ((refusal ≡ refusals.WantOfMemory) × (after ≡ before)) ⊎ HasRefused g before owner after refusal
 
--- The work over the file ended by that refusal. But for 45 its connection is handed on as the open left it; after 45 it
--- was looked into, and no row of it was touched.
+-- The work over the file ended by that refusal. But for `WrongFile` its connection is handed on as the open left it;
+-- after `WrongFile` it was looked into, and no row of it was touched.
 pub record EndsUnopened {S T : Type 0} (g : Ghosts S) (before : Held S) (owner : Owner) (outcome : Result T Refusal)
     (last : Option (Held S)) : Type 0 where
   pub refusal : Refusal

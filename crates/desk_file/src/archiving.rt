@@ -109,8 +109,8 @@ fn archive_copy<W: Write>(
     archived
 }
 
-/// Writes the lines of the file of this name from a place on, where it is there. Else the standard error is told of a
-/// fault, and the exit status is the answer.
+/// Writes the lines of the file of this name from a place on, where it is there. Else a
+/// fault is printed to standard error, and the exit status is the answer.
 fn archive_file<W: Write>(
     host: &HostRuntime,
     writer: &mut W,
@@ -186,7 +186,8 @@ fn archive_files<W: Write>(
 /// Prints the document lines of the commands that a node's files have committed, from a place on, in the order of their
 /// places, and answers the exit status. Each file is copied into memory first, with the log beside it, and none is
 /// changed or made. After a fault its number and name stand in the standard error, and the lines before it are printed:
-/// a file that a node has open or that can not be read is 41, one that is missing or another node's 45.
+/// a file that a node has open or that can not be read is `StoreFault`, one that is missing or another node's
+/// `WrongFile`.
 pub fn log_file(host: &HostRuntime, options: LogOptions) -> u8
     ensures { result ≤ FAILED }
 {

@@ -31,7 +31,8 @@ impl<S: Alter> EndedFile<S> {
     ) -> EndedFile<S>
         ensures outcome { result.end.outcome ≡ outcome }
         ensures open { IsSome result.connection }
-        // But for 45 the connection is handed on as it came; after 45 it is looked into, and no row is touched.
+        // But for `WrongFile` the connection is handed on as it came; after `WrongFile` it is looked into, and no row
+        // is touched.
         ensures same { ¬ (outcome ≡ Err refusals.WrongFile) → result.connection ≡ Some connection }
         ensures read { IfSome result.connection
             (λ after. IsLookedInto (state S.Store connection) (state S.Store after)) }

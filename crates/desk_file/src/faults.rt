@@ -7,12 +7,12 @@ ghost use Rattle.sqlite.specs.State.{HasCleanDisk};
 ghost use Rattle.sqlite.specs.Held.{state};
 ghost use Rattle.desk_types.specs.declared.refusal.Refusal.TheVariants as refusals;
 ghost use Rattle.desk_output.specs.Telling.{TellsFirst};
-ghost use Rattle.desk_saved.specs.Named.{NamesOwner, NamesNobody};
+ghost use Rattle.desk_naming.specs.Named.{NamesOwner, NamesNobody};
 ghost use Rattle.desk_file.specs.Faults.{IsReferring, NamesReferring, TellsReferring};
 ghost use Rattle.desk_file.specs.Faults.{unopened_fault};
 ghost use Rattle.desk_file.specs.Reading.{IsLookedInto};
 ghost use Rattle.desk_file.specs.declared.faults.Cause.TheVariants as causes;
-ghost use Rattle.desk_saved.specs.declared.named.NamedOwner.{NamedOwner as Named};
+ghost use Rattle.desk_naming.specs.declared.named.NamedOwner.{NamedOwner as Named};
 
 use desk_output::LinePart::{Number, Text};
 use desk_output::{DONE, FAILED, LinePart, refusal_status, refusal_status_with};
@@ -68,7 +68,7 @@ fn referring_name<S: Alter>(alloc: Global, connection: &Connection<S>) -> Option
     String::from_str(alloc, name).ok()
 }
 
-/// What in the database of a node's file the end of its answers is due to. The rows are read after 45 alone.
+/// What in the database of a node's file the end of its answers is due to. The rows are read after `WrongFile` alone.
 fn cause_of<S: Alter>(
     alloc: Global,
     connection: &mut Connection<S>,
@@ -150,7 +150,7 @@ fn why_unopened(error: &Error) -> Option<&'static str>
     }
 }
 
-/// A file's name, as what is told of it names it.
+/// A file's name, as printed lines name it.
 pub(crate) fn shown(name: &str) -> &str {
     if name.is_empty() {
         return "a file without a name";
@@ -178,8 +178,8 @@ pub fn unopened_status<'a, E: Write>(errors: &mut E, file: &'a str, error: &Erro
     }
 }
 
-/// What is told after the node that a file names, where that is the one that was asked for. The domain that was asked
-/// for is not at hand here.
+/// What is printed after the node that a file names, where that is the one that was asked for. The domain that was
+/// asked for is not at hand here.
 fn what_differs(owner: &NamedOwner, file: NodeFile<'_>) -> &'static str {
     if owner.id == file.id as u64 && owner.n == file.n as u64 {
         return ", so the domain is another, or the rows are no saved state";
@@ -306,7 +306,7 @@ pub fn closed_status<E: Write>(
     ensures status { result ≤ FAILED }
     ensures done { result ≡ DONE → IsTrue closed × IsOk end.now.outcome }
     ensures failed { IfErr end.now.outcome (λ _. result ≡ FAILED) }
-    // What is told first is the line of what ended it, or of 41 where the file was not closed.
+    // What is printed first is the line of what ended it, or of `StoreFault` where the file was not closed.
     ensures printed { IfErr end.now.outcome (TellsFirst (E.contents errors.old) (E.contents errors.new)) }
     ensures unclosed { OnOk end.now.outcome (IsFalse closed →
         TellsFirst (E.contents errors.old) (E.contents errors.new) refusals.StoreFault) }

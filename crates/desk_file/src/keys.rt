@@ -79,7 +79,7 @@ fn key_in(file: &mut File) -> Result<Key, NoKey> {
     key_from(file)
 }
 
-/// The fault that is told of a file that gives no key.
+/// The fault that is reported of a file that gives no key.
 fn no_key_fault(why: NoKey) -> Refusal
     ensures { result ≡ no_key_fault why }
 {
@@ -116,7 +116,8 @@ fn no_key_status<E: Write>(errors: &mut E, name: &str, why: NoKey) -> u8
     )
 }
 
-/// The key that a file gives. Where it gives none, the standard error is told why, and the exit status is the answer.
+/// The key that a file gives. Where it gives none, the reason is printed to standard error, and the exit status is the
+/// answer.
 pub fn read_key(host: &HostRuntime, name: &str) -> Result<Key, u8>
     ensures { IfErr result (λ status. status ≡ FAILED) }
 {

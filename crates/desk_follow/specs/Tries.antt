@@ -41,7 +41,7 @@ course_by count (Some reply) = course_of count reply
 abbrev pub following_node : ℕ → ℕ → ℕ
 following_node count node = if node + 1 == count then 0 else node + 1
 
--- where a line goes that is asked again: to another node that was told to be the primary, or else to the node after
+-- where a line goes that is asked again: to another node that was named as the primary, or else to the node after
 abbrev pub node_by : ℕ → ℕ → Course → ℕ
 node_by count node (courses.At primary) = if primary == node then following_node count node else primary
 node_by count node courses.Later = following_node count node
@@ -81,7 +81,7 @@ abbrev pub GivenUp : Refusal → Bool → Type 0
 GivenUp refusal is_late =
     ((refusal ≡ refusals.WantOfMemory) × (is_late ≡ false)) ⊎ ((refusal ≡ refusals.ReadFault) × (is_late ≡ true))
 
--- the primary that is told is of the group
+-- the primary that is named is of the group
 abbrev pub IsWithin : ℕ → Course → Type 0
 IsWithin count (courses.At node) = node < count
 IsWithin count other = Unit {0}

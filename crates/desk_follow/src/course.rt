@@ -39,8 +39,8 @@ fn past_member<'a>(text: &'a [u8], key: &[u8]) -> &'a [u8]
     }
 }
 
-/// Whether the text begins with the number of a refusal after which a line is asked again: it waits (32), the node has
-/// stopped (34), or memory was refused (40).
+/// Whether the text begins with the number of a refusal after which a line is asked again: it waits (`Waiting`), the
+/// node has stopped (`NodeStopped`), or memory was refused (`WantOfMemory`).
 fn is_later(text: &[u8]) -> bool
     ensures { result ≡ is_later text.now }
 {

@@ -41,7 +41,7 @@ pub struct Follower<N: Nodes> {
     ghost few: { count ≤ MOST_NODES },
 }
 
-// It is written out, so that a caller does not prove again how each part is dropped.
+// Written out, so that callers need not prove each part's drop.
 impl<N: Nodes + Drop> Drop for Follower<N> {
     fn drop(self) {
         let Follower {
@@ -148,7 +148,7 @@ fn longer_pause(pause: u64) -> u64
     (2 * pause).min(LONGEST_PAUSE)
 }
 
-/// How a line is asked again: how often it went to a primary that was told since its last pause, and its next pause in
+/// How a line is asked again: how often it went to a primary that was named since its last pause, and its next pause in
 /// milliseconds.
 #[derive(Drop)]
 struct Pace {
@@ -165,7 +165,7 @@ impl Pace {
         }
     }
 
-    /// How many milliseconds are waited before the next try. A line goes to a primary that was told at once; but where
+    /// How many milliseconds are waited before the next try. A line goes to a primary that was named at once; but where
     /// nodes send it on more often than the group has nodes, it waits as well.
     fn wait(&mut self, is_sent_on: bool, count: u8) -> u64 {
         if is_sent_on && self.sent_on < count {
@@ -181,8 +181,8 @@ impl Pace {
 
 /// A line is answered by its final reply, whichever node gives it.
 ///
-/// It gives up where memory is refused (40), and where the time for the line's tries is over (43, and the follower is
-/// late). Whether the line was done is unknown then.
+/// It gives up where memory is refused (`WantOfMemory`), and where the time for the line's tries is over (`ReadFault`,
+/// and the follower is late). Whether the line was done is unknown then.
 impl<N: Nodes> Handler for Follower<N> {
     ghost use Rattle.std.specs.Prelude.{ℕ};
     ghost use Rattle.desk_follow.specs.Tries.{Answered, Tried, GivenUp};
@@ -237,8 +237,9 @@ impl<N: Nodes> Handler for Follower<N> {
 /// writes that reply before the next line is sent, until the input is at its end.
 ///
 /// Which lines are skipped, and when the output is flushed, is as `serve_lines` says. It ends where memory is refused
-/// (40); at a read of the input that fails, after 4,294,967,295 reads of it, and where the time for a line's tries is
-/// over, of which the follower tells (43); and at a write to the output that fails or takes no byte (44).
+/// (`WantOfMemory`); at a read of the input that fails, after 4,294,967,295 reads of it, and where the time for a
+/// line's tries is over, of which the follower tells (`ReadFault`); and at a write to the output that fails or takes no
+/// byte (`WriteFault`).
 pub fn follow_lines<I: Read, O: Write, N: Nodes>(
     alloc: Global,
     input: &mut I,

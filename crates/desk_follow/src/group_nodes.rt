@@ -32,7 +32,7 @@ pub struct GroupNodes<R: Net<Stream = TcpStream> + Clock + RandomSource> {
     tries: TryLog,
 }
 
-// It is written out, so that a caller does not prove again how each part is dropped.
+// Written out, so that callers need not prove each part's drop.
 impl<R: Net<Stream = TcpStream> + Clock + RandomSource + Drop> Drop for GroupNodes<R> {
     fn drop(self) {
         let GroupNodes {

@@ -154,7 +154,7 @@ fn reply_over<B: BufRead + Drop, W: Write + Drop>(
     // This line alone was sent, once, and the reply is the next line that came.
     ensures ok { IfOk result (λ reply. (text : List ℕ) → HoldsLine line.now text →
         RepliesOver (W.contents writer) (B.remaining reader) text (string_bytes reply)) }
-    // Where the node is told to have given none, none came.
+    // Where the node is reported to have given none, none came.
     ensures broken { IfErr result (λ fault. (text : List ℕ) → HoldsLine line.now text → fault ≡ faults.Broken →
         BreaksOver (W.contents writer) (B.remaining reader) text) }
 {

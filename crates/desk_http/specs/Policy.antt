@@ -11,7 +11,7 @@ source_fields = (
 )
     ∷ (codes "x-content-type-options", codes "nosniff") ∷ []
 
--- what other sites are told of this one, and what is kept
+-- what other sites learn of this one, and what is saved
 abbrev pub site_fields : List Header
 site_fields =
     (codes "referrer-policy", codes "no-referrer") ∷ (codes "cross-origin-resource-policy", codes "same-origin")

@@ -41,7 +41,7 @@ fn add_sources(response: &mut Response) -> Result<(), AllocError>
     add(response, "x-content-type-options", "nosniff")
 }
 
-/// No other site is told of this one, nor reads of it, and nothing is kept on disk.
+/// No other site learns of this one, nor reads of it, and nothing is saved on disk.
 fn add_site(response: &mut Response) -> Result<(), AllocError>
     ensures fields { OnOk result (fields_of response.new ≡ fields_of response.old ++ site_fields) }
     ensures status { response.new.status ≡ response.old.status }

@@ -26,7 +26,7 @@ pub(crate) struct Calls {
     index: Places,
 }
 
-// It is written out, so that a caller does not prove again how each part is dropped.
+// Written out, so that callers need not prove each part's drop.
 impl Drop for Calls {
     fn drop(self) {
         let Calls { table: _, index: _ } = self;

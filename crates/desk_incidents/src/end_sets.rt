@@ -15,7 +15,7 @@ pub(crate) struct EndSets {
     pub alloc: Global,
 }
 
-// It is written out, so that a caller does not prove again how each part is dropped.
+// Written out, so that callers need not prove each part's drop.
 impl Drop for EndSets {
     fn drop(self) {
         let EndSets { sets: _, alloc: _ } = self;

@@ -37,7 +37,7 @@ pub(crate) struct Links {
     ends: EndSets,
 }
 
-// It is written out, so that a caller does not prove again how each part is dropped.
+// Written out, so that callers need not prove each part's drop.
 impl Drop for Links {
     fn drop(self) {
         let Links {

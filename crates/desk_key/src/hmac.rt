@@ -69,7 +69,7 @@ pub struct HmacKey {
     ghost ends: { Holds256 outer (padded_block 0x5c block.value) } by { Holds256-prop _ _ },
 }
 
-// It is written out, so that a caller does not prove again how each part is dropped.
+// Written out, so that callers need not prove each part's drop.
 impl Drop for HmacKey {
     fn drop(self) {
         let HmacKey {

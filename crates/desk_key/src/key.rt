@@ -31,7 +31,7 @@ pub struct Key {
     ghost some: { is_zeros bytes ≡ false },
 }
 
-// It is written out, so that a caller does not prove again how each part is dropped.
+// Written out, so that callers need not prove each part's drop.
 impl Drop for Key {
     fn drop(self) {
         let Key { bytes: _ } = self;

@@ -12,12 +12,12 @@ count_after_failure count = option_map (λ n. (n + 1) % 2 ^ 64) count
 abbrev pub NoneFailed : Option ℕ → Option ℕ → Option ℕ → Option ℕ → Type 0
 NoneFailed reads reads' writes writes' = (reads' ≡ reads) × (writes' ≡ writes)
 
--- One write failed, and the fault is 44; or none did, and it is another fault that can have ended the run.
+-- One write failed, and the fault is `WriteFault`; or none did, and it is another fault that can have ended the run.
 abbrev pub IsWritersFault : (Refusal → Type 0) → Refusal → Option ℕ → Option ℕ → Type 0
 IsWritersFault IsOther fault writes writes' =
     ((fault ≡ refusals.WriteFault) × (writes' ≡ count_after_failure writes)) ⊎ (IsOther fault × (writes' ≡ writes))
 
--- One read failed and no write, and the fault is 43; or no read did, and it is the writer's.
+-- One read failed and no write, and the fault is `ReadFault`; or no read did, and it is the writer's.
 abbrev pub IsStreamsFault : (Refusal → Type 0) → Refusal → Option ℕ → Option ℕ → Option ℕ → Option ℕ → Type 0
 IsStreamsFault IsOther fault reads reads' writes writes' =
     ((fault ≡ refusals.ReadFault) × (reads' ≡ count_after_failure reads) × (writes' ≡ writes))

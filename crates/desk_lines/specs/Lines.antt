@@ -31,7 +31,7 @@ abbrev pub IsOneLine : List ℕ → Type 0
 IsOneLine [] = Unit {0}
 IsOneLine (b ∷ bytes) = ((b == 10) ≡ false) × IsOneLine bytes
 
--- This much of a line has come. A prefix is kept of it, of no more bytes than a line may have.
+-- This much of a line has come. A prefix is held of it, of no more bytes than a line may have.
 pub record HasCome (preserved : List ℕ) (is_long : Bool) (line : List ℕ) : Type 0 where
   pub preserved_is : preserved ≡ take LINE_BYTES line
   pub long_is : is_long ≡ nat_lt LINE_BYTES (length line)

@@ -21,7 +21,7 @@ pub struct LineBuffer {
     ghost room: { LINE_BYTES ≤ vec_capacity bytes },
 }
 
-// It is written out, so that a caller does not prove again how each part is dropped.
+// Written out, so that callers need not prove each part's drop.
 impl Drop for LineBuffer {
     fn drop(self) {
         let LineBuffer {
@@ -34,7 +34,7 @@ impl Drop for LineBuffer {
 impl LineBuffer {
     ghost use Rattle.desk_lines.specs.Holding.{HoldsLine};
 
-    /// Nothing of a line.
+    /// A buffer that holds an empty line so far.
     pub(crate) fn new(alloc: Global) -> Result<LineBuffer, WantOfMemory>
         ensures { IfOk result (λ buffer. HoldsLine buffer []) }
     {

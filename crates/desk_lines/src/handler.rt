@@ -8,7 +8,7 @@ ghost use Rattle.desk_lines.specs.ReplyTexts.{bytes_of};
 use crate::buffer::LineBuffer;
 use desk_types::Refusal;
 
-/// Is told how far an input has come, so that a test can hold a session back.
+/// Learns how far an input has come, so that a test can hold a session back.
 pub trait Gate {
     fn before_read(&self);
 
@@ -50,8 +50,8 @@ pub trait Handler {
 
     ghost preserved: { Self → Self.Preserved };
 
-    /// Answers the line that has come. Where that fails, for want of memory (40) or by a fault of reading (43) or of
-    /// writing (44), no further line is answered.
+    /// Answers the line that has come. Where that fails, for want of memory (`WantOfMemory`) or by a fault of reading
+    /// (`ReadFault`) or of writing (`WriteFault`), no further line is answered.
     fn answer(self, line: &LineBuffer) -> (Self, Result<ReplyText, Refusal>)
         ensures ok { IfOk result.1 (λ reply. (text : List ℕ) → HoldsLine line.now text →
             answers self text (bytes_of reply) result.0) }

@@ -190,7 +190,7 @@ pub fn serve_streams<D: Handler, I: ReadPieces, O: WriteTexts, G: Gate>(
         BreaksOff D.answers D.gives_up r handler (O.contents writer.old) (lines_of input)
         result.0 (O.contents writer.new))) }
     ensures fault { IfErr result.1 IsStreamFault }
-    // The fault that is told is that of the one call that failed, where one did.
+    // The fault that is reported is that of the one call that failed, where one did.
     ensures calls { MatchResult result.1
         (λ _. NoneFailed (I.failed reader.old) (I.failed reader.new) (O.failed writer.old) (O.failed writer.new))
         (λ r. IsStreamsFault (IsWantOrHandlers D.gives_up) r
@@ -230,8 +230,9 @@ pub fn serve_streams<D: Handler, I: ReadPieces, O: WriteTexts, G: Gate>(
 /// counts. Of a longer line the rest is thrown away. The writer is flushed after the lines of each read, so that no
 /// reply waits for input. The memory of a line is taken before the first read.
 ///
-/// It ends as the handler does (40, 43 or 44), where memory is refused (40), at a read that fails and after
-/// 4,294,967,295 reads (43), and at a write that fails or takes no byte (44).
+/// It ends as the handler does (`WantOfMemory`, `ReadFault` or `WriteFault`), where memory is refused (`WantOfMemory`),
+/// at a read that fails and after 4,294,967,295 reads (`ReadFault`), and at a write that fails or takes no byte
+/// (`WriteFault`).
 pub fn serve_lines<D: Handler, I: Read, O: Write, G: Gate>(
     alloc: Global,
     reader: &mut I,

@@ -23,8 +23,8 @@ pub trait ReadPieces {
     /// How many reads failed, where they are counted.
     ghost failed: { Self → Option ℕ };
 
-    /// Reads once, and tells how many bytes that gave: none at the end alone. A read that fails is 43, and so is one
-    /// read more than a stream may have, which is not made.
+    /// Reads once, and tells how many bytes that gave: none at the end alone. A read that fails is `ReadFault`, and so
+    /// is one read more than a stream may have, which is not made.
     fn read_piece(&mut self, reads: &mut ReadCount, room: &mut [u8]) -> Result<usize, Refusal>
         requires room { 0 < length room.old }
         // The bytes stand first in the room.
@@ -38,7 +38,7 @@ pub trait ReadPieces {
         ensures counted { reads.old < STREAM_READS → reads.new ≡ reads.old + 1 }
         // A stream is read so often at most.
         ensures most { OnOk result (reads.old < STREAM_READS) }
-        // It counts as failed exactly where it is told as 43.
+        // It counts as failed exactly where it is reported as `ReadFault`.
         ensures failed { MatchResult result (λ _. failed self.new ≡ failed self.old)
             (λ _. failed self.new ≡ count_after_failure (failed self.old)) };
 }
@@ -53,8 +53,8 @@ pub trait WriteTexts {
     /// How many texts were not written whole, and how many flushes failed, where they are counted.
     ghost failed: { Self → Option ℕ };
 
-    /// Writes the whole of a text. Where a write fails, or takes no byte, that is 44, and a prefix of the text is
-    /// written.
+    /// Writes the whole of a text. Where a write fails, or takes no byte, that is `WriteFault`, and a prefix of the
+    /// text is written.
     fn write_text(&mut self, text: &[u8]) -> Result<(), Refusal>
         ensures ok { OnOk result (Appends (contents self.old) (contents self.new) text.now) }
         ensures err { OnErr result (AppendsPrefix (contents self.old) (contents self.new) text.now) }
@@ -69,7 +69,7 @@ pub trait WriteTexts {
         ensures failed { MatchResult result (λ _. failed self.new ≡ failed self.old)
             (λ _. failed self.new ≡ count_after_failure (failed self.old)) };
 
-    /// Sends on what the writer holds back. Where that fails, that is 44.
+    /// Sends on what the writer holds back. Where that fails, that is `WriteFault`.
     fn flush(&mut self) -> Result<(), Refusal>
         ensures bytes { Keeps (contents self.old) (contents self.new) }
         ensures fault { IfErr result (λ r. r ≡ refusals.WriteFault) }

@@ -89,12 +89,12 @@ pub record IsRetried (log : List Entry) (client number place : ℕ) : Type 0 whe
   pub latest : IsLatest client log place
   pub number_is : latest.entry.number ≡ number
 
--- A request that is sent again stands at the place that is told.
+-- A request that is sent again stands at the place that is given.
 abbrev pub RetriedStands : Type 0
 RetriedStands = (log : List Entry) (client number place : ℕ) → admission log client number ≡ Retry place →
     IsRetried log client number place
 
--- No client of a log is told twice.
+-- No client of a log has two rows.
 abbrev pub ClientsDiffer : Type 0
 ClientsDiffer = (log : List Entry) → AllPairs (λ r s. r.client ≢ s.client) (clients log)
 
@@ -102,7 +102,7 @@ ClientsDiffer = (log : List Entry) → AllPairs (λ r s. r.client ≢ s.client) 
 abbrev pub ClientRowsAreLatest : Type 0
 ClientRowsAreLatest = (log : List Entry) → All (λ r. IsRetried log r.client r.number r.place) (clients log)
 
--- Each client that has an entry is told.
+-- Each client that has an entry has a row.
 abbrev pub EachClientHasRow : Type 0
 EachClientHasRow = (log : List Entry) (client place : ℕ) → latest client log ≡ Some place →
     Contains (clients log) (client_row_at log client place)

@@ -12,7 +12,7 @@ pub(crate) struct LatestPlaces {
     places: BTreeMap<u64, Option<u64>>,
 }
 
-// It is written out, so that a caller does not prove again how each part is dropped.
+// Written out, so that callers need not prove each part's drop.
 impl Drop for LatestPlaces {
     fn drop(self) {
         let LatestPlaces { places: _ } = self;

@@ -22,7 +22,7 @@ pub struct Saved {
     commit: u64,
 }
 
-// It is written out, so that a caller does not prove again how each part is dropped.
+// Written out, so that callers need not prove each part's drop.
 impl Drop for Saved {
     fn drop(self) {
         let Saved {

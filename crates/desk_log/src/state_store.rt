@@ -27,7 +27,7 @@ pub trait StateStore {
         ensures { IfOk result (λ saved. saved ≡ last self.now) };
 
     /// Saves a state, where the caller knows that its log and that of the state that was saved last begin with the same
-    /// `known` entries. After a fault, which is told as 41, nothing more may be saved.
+    /// `known` entries. After a fault, which is reported as `StoreFault`, nothing more may be saved.
     fn save_state(&mut self, saved: &Saved, known: u64) -> Result<(), Refusal>
         requires running { stopped self.old ≡ false }
         requires within { (known ≤ length (last self.old).log) × (known ≤ length saved.now.log) }

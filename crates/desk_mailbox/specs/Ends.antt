@@ -32,7 +32,7 @@ module _ {T : Type 0} where
   abbrev pub taken_by : Taker T → List (SentItem T)
   taken_by taker = (view taker.pass).taken
 
-  -- whether the taker's last wait for an item was told that no sender is left
+  -- whether the taker's last wait for an item found that no sender is left
   abbrev pub no_sender_left : Taker T → Bool
   no_sender_left taker = taker.no_sender_left
 

@@ -13,7 +13,7 @@ use std::sync::Wait;
 pub struct Taker<T: Drop> {
     pub(crate) channel: RuledReceiver<SentItem<T>, PassView<T>, MailboxRule>,
     pub(crate) pass: Pass<SentItem<T>, PassView<T>>,
-    /// Whether its last wait for an item was told that no sender is left.
+    /// Whether its last wait for an item found that no sender is left.
     pub(crate) no_sender_left: bool,
     ghost seated: { IsSeatAt (receives_on channel) pass },
     ghost takes: { ((view pass).sends ≡ false) × ((view pass).takes ≡ true) },
@@ -23,7 +23,7 @@ impl<T: Drop> Taker<T> {
     ghost use Rattle.desk_mailbox.specs.Ends.{taken_by, no_sender_left, IsSameTaker};
 
     /// Takes an item, and waits while the mailbox is empty. `None` where the channel tells that no sender is left; the
-    /// contract does not say when it tells that, but keeps that it was told.
+    /// contract does not say when it tells that, but records that it did.
     pub fn take<R: Wait>(self, rt: &R) -> (Taker<T>, Option<SentItem<T>>)
         ensures same { IsSameTaker self result.0 }
         ensures took { MatchOption result.1 (taken_by result.0 ≡ taken_by self)

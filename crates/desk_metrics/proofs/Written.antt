@@ -29,14 +29,14 @@ wrote_item f a b c xs i d within h k =
     subst (Appends a c) (sym one_item) (Appends-trans a b c _ _ h k)
 
 -- the lines of nodes, and of those that stand after them
-lines_behind : (line : ℕ → Option ℕ → List ℕ) (node : ℕ) (xs ys : List (Option ℕ)) →
+lines_after : (line : ℕ → Option ℕ → List ℕ) (node : ℕ) (xs ys : List (Option ℕ)) →
     samples_from line node (xs ++ ys) ≡ samples_from line node xs ++ samples_from line (node + length xs) ys
-lines_behind line node [] ys =
+lines_after line node [] ys =
     let here : node + 0 ≡ node = omega arith in
     rw here refl
-lines_behind line node (x ∷ xs) ys =
+lines_after line node (x ∷ xs) ys =
     let later : node + 1 + length xs ≡ node + suc (length xs) = omega arith in
-    ap (λ l. line node x ++ l) (lines_behind line (node + 1) xs ys
+    ap (λ l. line node x ++ l) (lines_after line (node + 1) xs ys
     ∙ ap (λ n. samples_from line (node + 1) xs ++ samples_from line n ys) later)
     ∙ sym (append_assoc (line node x) (samples_from line (node + 1) xs)
     (samples_from line (node + suc (length xs)) ys))
@@ -48,7 +48,7 @@ one_node_more : (line : ℕ → Option ℕ → List ℕ) (places : List (Option 
 one_node_more line places i d within =
     let many : 0 + length (take i places) ≡ i = omega (arith, length-take-le i places (omega (arith, within))) in
     ap (samples_from line 0) (take_more places i d within)
-    ∙ lines_behind line 0 (take i places) (get_or places i d ∷ [])
+    ∙ lines_after line 0 (take i places) (get_or places i d ∷ [])
     ∙ ap (λ n. samples_from line 0 (take i places) ++ samples_from line n (get_or places i d ∷ [])) many
     ∙ ap (λ l. samples_from line 0 (take i places) ++ l) (append-nil (line i (get_or places i d)))
 

@@ -20,7 +20,7 @@ pub(crate) struct AnswerBoard {
     pub alloc: Global,
 }
 
-// It is written out, so that a caller does not prove again how each part is dropped.
+// Written out, so that callers need not prove each part's drop.
 impl Drop for AnswerBoard {
     fn drop(self) {
         let AnswerBoard {
@@ -107,7 +107,7 @@ impl AnswerBoard {
         self.board = None;
     }
 
-    /// The board of the log's first entries, so many of them. It is no longer kept then.
+    /// The board of the log's first entries, so many of them. It is no longer held then.
     fn board_at(&mut self, log: &Log, upto: u64) -> Result<Board, WantOfMemory>
         requires follows { FollowsLog self.old.domain self.old.board log.now }
         requires within { upto ≤ length log.now }

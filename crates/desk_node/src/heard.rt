@@ -16,7 +16,7 @@ pub(crate) struct HeardRows {
     view_change: ViewChangeRows,
 }
 
-// It is written out, so that a caller does not prove again how each part is dropped.
+// Written out, so that callers need not prove each part's drop.
 impl Drop for HeardRows {
     fn drop(self) {
         let HeardRows {

@@ -33,7 +33,7 @@ pub struct Node {
     pub(crate) alloc: Global,
 }
 
-// It is written out, so that a caller does not prove again how each part is dropped.
+// Written out, so that callers need not prove each part's drop.
 impl Drop for Node {
     fn drop(self) {
         let Node {

@@ -67,7 +67,7 @@ on_prepare i n saved from view place commit entry =
     (PrepareOk i view (length saved.log))
     else state_request i saved from view
 
--- Where the commit rose, the others are told.
+-- Where the commit rose, the others hear of it.
 abbrev pub commit_packets : ℕ → ℕ → SavedValue → ℕ → List (ℕ × Message)
 commit_packets i n saved old = if nat_lt old saved.commit then to_others i n (Commit i saved.view saved.commit) else []
 

@@ -16,7 +16,7 @@ pub struct Acknowledgements {
     alloc: Global,
 }
 
-// It is written out, so that a caller does not prove again how each part is dropped.
+// Written out, so that callers need not prove each part's drop.
 impl Drop for Acknowledgements {
     fn drop(self) {
         let Acknowledgements {

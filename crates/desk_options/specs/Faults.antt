@@ -1,4 +1,4 @@
--- What the standard error is told where words are refused, and where a program does not run what they ask for.
+-- What is printed to standard error where words are refused, and where a program does not run what they ask for.
 use Rattle.std.specs.Prelude.{◌≡◌, ◌++◌, ℕ, List, codes, string_bytes, ⊤}
 use Rattle.desk_types.specs.declared.refusal.Refusal.TheVariants as refusals
 use Rattle.desk_output.specs.Telling.{printed_line}
@@ -11,7 +11,7 @@ abbrev pub IsRefusalBy : List ℕ → OptionsFault → Type 0
 IsRefusalBy text options.WantOfMemory = ⊤
 IsRefusalBy text (options.Refused printed) = string_bytes printed ≡ text
 
--- what is told where there are no options
+-- what is printed where there are no options
 abbrev pub printed_text : OptionsFault → List ℕ
 printed_text options.WantOfMemory = printed_line refusals.WantOfMemory
 printed_text (options.Refused text) = string_bytes text

@@ -43,7 +43,7 @@ use serve::{serve_command, serve_options};
 use status::{status_command, status_options};
 use std::alloc::{AllocError, AllocFailed, Global};
 
-/// What is told of a domain that is none.
+/// What is printed of a domain that is none.
 const BAD_DOMAIN: &str = "\
 desk: bad domain
 desk: a domain is up to 128 letters, digits, hyphens and dots, with no dot at an end or beside another
@@ -300,7 +300,7 @@ fn replay_options(alloc: Global, words: &[&str]) -> Result<Options, OptionsFault
     Ok(Options::Replay(ReplayOptions { domain }))
 }
 
-/// What is told of another number of nodes.
+/// What is printed of another number of nodes.
 const NODES_FAULT: &str = "desk: nodes must be 3 or 5\n";
 
 /// The number of nodes that a text spells.

@@ -1,4 +1,4 @@
-//! What the standard error is told where words are refused, and where a program does not run what they ask for.
+//! What is printed to standard error where words are refused, and where a program does not run what they ask for.
 
 ghost use Rattle.std.specs.Prelude.{◌≡◌};
 ghost use Rattle.desk_output.specs.Prefixes.{AppendsPrefix};

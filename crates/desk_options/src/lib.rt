@@ -1,4 +1,4 @@
-//! What the words after the program's name ask for, as `clap` reads them, and what is told where that is nothing.
+//! What the words after the program's name ask for, as `clap` reads them, and what is printed where that is nothing.
 #![tactic(auto)]
 
 mod command_line;

@@ -1,4 +1,4 @@
--- What the standard error is told of faults and refusals.
+-- What is printed to standard error about faults and refusals.
 use Rattle.std.specs.Prelude.{ℕ, List, ◌++◌, Option, codes, decimal, flat_map}
 use Rattle.desk_types.specs.Refusal.{refusal_number, name_of}
 use Rattle.desk_types.specs.declared.refusal.Refusal.{Refusal}

@@ -34,8 +34,8 @@ impl ReadCount {
         ReadCount { reads: 0 }
     }
 
-    /// Reads the stream once, and tells how many bytes it gave: none at its end alone. A read that fails is 43, and so
-    /// is one read more than a stream may have, which is not made.
+    /// Reads the stream once, and tells how many bytes it gave: none at its end alone. A read that fails is
+    /// `ReadFault`, and so is one read more than a stream may have, which is not made.
     pub fn read_piece<R: Read>(&mut self, source: &mut R, room: &mut [u8]) -> Result<usize, Refusal>
         requires room { 0 < length room.old }
         // The bytes stand first in the room.

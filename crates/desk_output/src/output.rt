@@ -28,7 +28,8 @@ pub fn write_all<W: Write>(writer: &mut W, bytes: &[u8]) -> Result<(), usize>
     Ok(())
 }
 
-/// Writes the whole of a text. Where a write fails, or takes no byte, that is 44, and a prefix of the text is written.
+/// Writes the whole of a text. Where a write fails, or takes no byte, that is `WriteFault`, and a prefix of the text is
+/// written.
 pub fn write_text<W: Write>(writer: &mut W, text: &[u8]) -> Result<(), Refusal>
     ensures ok { OnOk result (Appends (W.contents writer.old) (W.contents writer.new) text.now) }
     ensures err { OnErr result (AppendsPrefix (W.contents writer.old) (W.contents writer.new) text.now) }
@@ -40,7 +41,7 @@ pub fn write_text<W: Write>(writer: &mut W, text: &[u8]) -> Result<(), Refusal>
     }
 }
 
-/// Sends on what the writer holds back. Where that fails, that is 44.
+/// Sends on what the writer holds back. Where that fails, that is `WriteFault`.
 pub fn flush<W: Write>(writer: &mut W) -> Result<(), Refusal>
     ensures bytes { Keeps (W.contents writer.old) (W.contents writer.new) }
     ensures fault { IfErr result (λ r. r ≡ refusals.WriteFault) }

@@ -1,4 +1,4 @@
-//! What the standard error is told of faults and refusals, and the exit statuses.
+//! What is printed to standard error about faults and refusals, and the exit statuses.
 
 ghost use Rattle.std.specs.Prelude.{◌≡◌, ◌≤◌, ◌++◌, OnOk, OnErr, IfErr, IsOk, IsErr};
 ghost use Rattle.std.specs.Io.KnownBytes.{Appends, Keeps};
@@ -17,7 +17,7 @@ pub const FAILED: u8 = 1;
 /// The exit status after a command line that is refused, and after a line that is no event.
 pub const REFUSED: u8 = 2;
 
-/// A part of a line that is told.
+/// A part of a line that is printed.
 #[derive(Clone, Copy)]
 pub enum LinePart<'a> {
     Text(&'a str),

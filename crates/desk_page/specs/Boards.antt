@@ -31,7 +31,7 @@ abbrev pub is_above : Option ℕ → ℕ → Bool
 is_above None place = true
 is_above (Some after) place = nat_lt after place
 
--- the same of a place that is told, if one is
+-- the same of a place that is announced, if one is
 abbrev pub is_reported_above : Option ℕ → Option ℕ → Bool
 is_reported_above after None = false
 is_reported_above after (Some place) = is_above after place
@@ -44,7 +44,7 @@ IsNewer answers after line = (is_reported_above after (place_listed line) ≡ tr
 abbrev pub IsListedPlace : {S : Type 0} → (S → List ℕ → List ℕ → S → Type 0) → ℕ → Type 0
 IsListedPlace answers place = (line : List ℕ) × (place_listed line ≡ Some place) × ∥ IsListed answers line ∥₁
 
--- the last board that was told, with its place
+-- the last board that was announced, with its place
 abbrev pub last_of : List (ℕ × List ℕ) → Option (ℕ × List ℕ)
 last_of [] = None
 last_of (board ∷ []) = Some board
@@ -56,7 +56,7 @@ rises [] = true
 rises (board ∷ []) = true
 rises (board ∷ next ∷ boards) = nat_lt board.0 next.0 && rises (next ∷ boards)
 
--- the line of the board that was told last, if one was, where it is of a place above the other
+-- the line of the board that was announced last, if one was, where it is of a place above the other
 abbrev pub newer_of : Option ℕ → Option (ℕ × List ℕ) → Option (List ℕ)
 newer_of after None = None
 newer_of after (Some board) = if is_above after board.0 then Some board.1 else None
@@ -65,7 +65,7 @@ newer_of after (Some board) = if is_above after board.0 then Some board.1 else N
 abbrev pub is_next : List (ℕ × List ℕ) → ℕ → Bool
 is_next boards place = is_above (option_map (λ last. last.0) (last_of boards)) place
 
--- the boards that were told, and one more where it is of a place above the last
+-- the boards that were announced, and one more where it is of a place above the last
 abbrev pub reported_with : List (ℕ × List ℕ) → ℕ × List ℕ → List (ℕ × List ℕ)
 reported_with boards board = if is_next boards board.0 then boards ++ board ∷ [] else boards
 

@@ -1,4 +1,4 @@
-//! The board that was told last.
+//! The board that was announced last.
 
 ghost use Rattle.std.specs.Prelude.{◌≡◌, ◌≤◌, ◌∷◌, ◌++◌, [], true, false, IfOk, IfSome, IsSomeAnd, option_map};
 ghost use Rattle.desk_page.specs.Boards.{IsListedPlace, IsNewer, is_next, last_of, newer_of, rises, reported_with};
@@ -9,7 +9,8 @@ use desk_lines::Handler;
 use http_server::Log;
 use std::alloc::AllocError;
 
-/// The board that was told last. Of those that were told, each was of a place above that of the one before it.
+/// The board that was announced last. Of those that were announced, each was of a place above that of the one before
+/// it.
 pub(crate) struct Board<D: Handler> {
     latest: Option<BoardLine<D>>,
     reported: Log<u64, Bytes>,
@@ -17,7 +18,7 @@ pub(crate) struct Board<D: Handler> {
     ghost last: { last_of reported.items ≡ option_map (λ line. (line.place, line.text)) latest },
 }
 
-// It is written out, so that a caller does not prove again how each part is dropped.
+// Written out, so that callers need not prove each part's drop.
 impl<D: Handler> Drop for Board<D> {
     fn drop(self) {
         let Board {
@@ -28,7 +29,7 @@ impl<D: Handler> Drop for Board<D> {
 }
 
 impl<D: Handler> Board<D> {
-    /// No board was told.
+    /// No board was announced.
     pub(crate) fn new() -> Board<D>
         ensures { result.reported.items ≡ [] }
     {
@@ -38,7 +39,7 @@ impl<D: Handler> Board<D> {
         }
     }
 
-    /// The place of the board that was told last.
+    /// The place of the board that was announced last.
     pub(crate) fn place(&self) -> Option<u64>
         ensures latest { result ≡ option_map (λ line. line.place) self.now.latest }
         ensures listed { IfSome result (IsListedPlace D.answers) }
@@ -49,7 +50,7 @@ impl<D: Handler> Board<D> {
         }
     }
 
-    /// Tells a board, where it is of a place above that of the one before it. Answers whether it was told.
+    /// Announces a board, where it is of a place above that of the one before it. Answers whether it was announced.
     pub(crate) fn tell(&mut self, line: BoardLine<D>) -> bool
         ensures reported { result ≡ true →
             self.new.reported.items ≡ self.old.reported.items ++ (line.place, line.text) ∷ [] }
@@ -68,21 +69,21 @@ impl<D: Handler> Board<D> {
         true
     }
 
-    /// Tells a board so. Gives the place of the board that is told last then.
+    /// Announces a board so. Gives the place of the board that is announced last then.
     pub(crate) fn publish(&mut self, line: BoardLine<D>) -> Option<u64>
         ensures listed { IfSome result (IsListedPlace D.answers) }
         ensures above { IsSomeAnd result (λ place. line.place ≤ place) }
-        // It is told where it is newer, and what was told before stays.
+        // It is announced where it is newer, and what was announced before stays.
         ensures reported { self.new.reported.items ≡ reported_with self.old.reported.items (line.place, line.text) }
     {
         self.tell(line);
         self.place()
     }
 
-    /// The line of the board that was told last, where it is of a place above the other.
+    /// The line of the board that was announced last, where it is of a place above the other.
     pub(crate) fn newer(&self, after: Option<u64>) -> Result<Option<Bytes>, AllocError>
         ensures newer { IfOk result (λ found. IfSome found (IsNewer D.answers after)) }
-        // It is the board that was told last, and no board before it.
+        // It is the board that was announced last, and no board before it.
         ensures last { IfOk result (λ found. found ≡ newer_of after (last_of self.now.reported.items)) }
     {
         match &self.latest {

@@ -20,7 +20,7 @@ pub struct BoardLine<D: Handler> {
     ghost given: { ∥ IsListed D.answers text ∥₁ },
 }
 
-// It is written out, so that a caller does not prove again how each part is dropped.
+// Written out, so that callers need not prove each part's drop.
 impl<D: Handler> Drop for BoardLine<D> {
     fn drop(self) {
         let BoardLine {

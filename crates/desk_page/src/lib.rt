@@ -1,4 +1,4 @@
-//! The live page of a desk: the board that nodes told last, which workers share, and a service that answers browsers
+//! The live page of a desk: the board that was announced last, which workers share, and a service that answers browsers
 //! with the page's files, with newer boards, and with the replies to their commands, and Prometheus with what was
 //! counted.
 #![tactic(auto)]

@@ -41,7 +41,7 @@ pub struct PageService<D: Handler, R: Wait + Clock> {
     shared: Arc<SharedPage<D>, Global>,
 }
 
-// It is written out, so that a caller does not prove again how each part is dropped.
+// Written out, so that callers need not prove each part's drop.
 impl<D: Handler + Drop, R: Wait + Clock + Drop> Drop for PageService<D, R> {
     fn drop(self) {
         let PageService {

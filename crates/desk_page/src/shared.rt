@@ -37,11 +37,11 @@ pub(crate) enum NoReplies {
     Busy,
 }
 
-/// What the threads of a page's server share: the board that was told last, what is known of the nodes, what was
+/// What the threads of a page's server share: the board that was announced last, what is known of the nodes, what was
 /// counted, and two handlers that answer commands.
 pub struct SharedPage<D: Handler> {
     board: Mutex<Board<D>>,
-    /// Who waits for a board is woken where one is told, and where nodes begin or cease to answer.
+    /// Who waits for a board is woken where one is announced, and where nodes begin or cease to answer.
     news: Condvar,
     group: Mutex<SeenGroup>,
     counts: Mutex<Counts>,
@@ -49,7 +49,7 @@ pub struct SharedPage<D: Handler> {
     second: Mutex<Option<D>>,
 }
 
-// It is written out, so that a caller does not prove again how each part is dropped.
+// Written out, so that callers need not prove each part's drop.
 impl<D: Handler + Drop> Drop for SharedPage<D> {
     fn drop(self) {
         let SharedPage {
@@ -64,7 +64,7 @@ impl<D: Handler + Drop> Drop for SharedPage<D> {
 }
 
 impl<D: Handler> SharedPage<D> {
-    /// No board was told yet. These two desks answer commands.
+    /// No board was announced yet. These two desks answer commands.
     pub fn new(first: D, second: D) -> SharedPage<D> {
         SharedPage {
             board: Mutex::new(Board::new()),
@@ -77,8 +77,8 @@ impl<D: Handler> SharedPage<D> {
     }
 }
 
-/// Tells a board, where its place is above that of the board before it. Gives the place of the board that is told last
-/// then, which is not below the line's.
+/// Announces a board, where its place is above that of the board before it. Gives the place of the board that is
+/// announced last then, which is not below the line's.
 pub fn publish_board<D: Handler, R: Wait>(
     rt: &R,
     shared: &SharedPage<D>,
@@ -96,8 +96,8 @@ pub fn publish_board<D: Handler, R: Wait>(
 }
 
 /// Asks a handler for all open incidents, in a session of this number, and tells the board, where the reply is that of
-/// a list. Gives the place of the board that is told last then. Err where the handler gives up, and where memory is
-/// refused.
+/// a list. Gives the place of the board that is announced last then. Err where the handler gives up, and where memory
+/// is refused.
 pub fn publish_listed<D: Handler, R: Wait>(
     rt: &R,
     alloc: Global,
@@ -105,7 +105,7 @@ pub fn publish_listed<D: Handler, R: Wait>(
     handler: D,
     session: u64,
 ) -> (D, Result<Option<u64>, Refusal>)
-    // Wherever the reply tells the place of a list, the board that is told last is not below it.
+    // Wherever the reply tells the place of a list, the board that is announced last is not below it.
     ensures { IfOk result.1 (λ reported. (reply : List ℕ)
         × Writes D.answers handler (list_document session) result.0 reply
         × IfSome (place_listed reply) (λ place. IsSomeAnd reported (λ last. place ≤ last))) }
@@ -118,7 +118,7 @@ pub fn publish_listed<D: Handler, R: Wait>(
     }
 }
 
-/// The place of the board that was told last.
+/// The place of the board that was announced last.
 pub fn published_place<D: Handler, R: Wait>(rt: &R, shared: &SharedPage<D>) -> Option<u64>
     ensures { IfSome result (IsListedPlace D.answers) }
 {
@@ -190,8 +190,8 @@ pub(crate) fn count_closed<D: Handler, R: Wait>(rt: &R, shared: &SharedPage<D>) 
     counts.close_connection();
 }
 
-/// The line of the board that was told last, where it is of a place above the other. Where it is not, that of the board
-/// after a wait: until the next is told, until nodes begin or cease to answer, or until this time is over.
+/// The line of the board that was announced last, where it is of a place above the other. Where it is not, that of the
+/// board after a wait: until the next is announced, until nodes begin or cease to answer, or until this time is over.
 pub(crate) fn awaited_board<D: Handler, R: Wait + Clock>(
     rt: &R,
     shared: &SharedPage<D>,

@@ -44,7 +44,7 @@ fn at_node<N: Nodes>(reader: Follower<N>, node: u8) -> Follower<N> {
     reader
 }
 
-/// Whether a place is above that of the board that was told last.
+/// Whether a place is above that of the board that was announced last.
 fn is_new<R: NodeRuntime>(rt: &R, shared: &SharedFollowers<R>, place: u64) -> bool {
     match published_place(rt, shared) {
         Some(known) => known < place,
@@ -72,7 +72,7 @@ fn list_board<R: NodeRuntime>(
     reader: Follower<GroupNodes<R>>,
 ) -> (Follower<GroupNodes<R>>, Duration) {
     let began = Instant::now(rt).ok();
-    // where no board came, the one that was told last stays
+    // where no board came, the one that was announced last stays
     let (reader, _reported) = publish_listed(rt, alloc, shared, reader, SESSION);
     (reader, pause_since(rt, &began))
 }

@@ -36,7 +36,7 @@ const READ_SECONDS: u16 = 1;
 /// What the threads share.
 pub(crate) type SharedFollowers<R> = Arc<SharedPage<Follower<GroupNodes<R>>>, Global>;
 
-/// The node that told the greatest place last.
+/// The node that reported the greatest place last.
 pub(crate) type BestNode = Arc<AtomicU8, Global>;
 
 /// A thread that goes on by itself, or the refusal of its start.
@@ -186,7 +186,7 @@ fn wait_for_end(host: &HostRuntime) -> Result<(), Refusal> {
     Ok(())
 }
 
-/// What is told of a port that is refused, after its number.
+/// What is printed of a port that is refused, after its number.
 fn why_refused(error: &io::Error) -> &'static str {
     match error.kind() {
         ErrorKind::AddrInUse => " is in use\n",

@@ -15,7 +15,7 @@ use std::time::Duration;
 /// Between two looks at all nodes, in milliseconds.
 const LOOK_MILLISECONDS: u64 = 1_000;
 
-/// The place that a node told.
+/// The place that a node reported.
 fn place_of(answer: &NodeAnswer) -> Option<u64> {
     match answer {
         NodeAnswer::Down => None,
@@ -26,7 +26,7 @@ fn place_of(answer: &NodeAnswer) -> Option<u64> {
     }
 }
 
-/// The places that the nodes told.
+/// The places that the nodes reported.
 fn places_of(alloc: Global, answers: &[NodeAnswer]) -> Result<Vec<Option<u64>>, WantOfMemory> {
     let mut places = Vec::new(alloc);
     for answer in answers {

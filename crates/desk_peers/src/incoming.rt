@@ -111,8 +111,9 @@ fn take_frames<I: Read, R: Wait>(
 /// Reads a peer's stream of frames to its end, and puts each packet into the mailbox, in order; it waits while the
 /// mailbox is full. Where it is known which node sends, a packet that names another one as its sender is left out.
 ///
-/// It ends early where the keeper has ended (34), where memory is refused (40), at bytes that no frame begins with
-/// (42), at a read that fails, an end inside a frame, and after 4,294,967,295 reads (43).
+/// It ends early where the keeper has ended (`NodeStopped`), where memory is refused (`WantOfMemory`), at bytes that no
+/// frame begins with (`FrameFault`), at a read that fails, an end inside a frame, and after 4,294,967,295 reads
+/// (`ReadFault`).
 pub fn take_packets<I: Read, R: Wait>(
     rt: &R,
     alloc: Global,

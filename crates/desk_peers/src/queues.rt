@@ -29,7 +29,7 @@ pub struct PeerQueues<R: Wait + Drop> {
     repeats: Vec<Repeats>,
 }
 
-// It is written out, so that a caller does not prove again how each part is dropped.
+// Written out, so that callers need not prove each part's drop.
 impl<R: Wait + Drop> Drop for PeerQueues<R> {
     fn drop(self) {
         let PeerQueues {

@@ -1,4 +1,4 @@
--- What the standard error is told of the faults that end a run.
+-- What is printed to standard error about the faults that end a run.
 use Rattle.std.specs.Prelude.{ℕ, List, ◌++◌, Option, codes, decimal}
 use Rattle.desk_types.specs.Refusal.{IsStreamFault}
 use Rattle.desk_types.specs.declared.refusal.Refusal.{Refusal}

@@ -11,7 +11,8 @@ use desk_types::Refusal;
 pub enum RunEnd {
     /// All went well.
     Done,
-    /// This fault ended it: want of memory (40), or a fault of reading (43) or writing (44).
+    /// This fault ended it: want of memory (`WantOfMemory`), or a fault of reading (`ReadFault`) or writing
+    /// (`WriteFault`).
     Failed { fault: Refusal },
     /// Words were refused, or a line of a script is no event.
     Refused,

@@ -66,9 +66,9 @@ fn with_allowed_hosts(host: &HostRuntime, run: HostRun) -> Result<u8, HostRun>
 /// Does what the words after the program's name ask for, between the standard streams, and answers the exit status: 0,
 /// 1 after a fault, or 2 for words that are refused and for a line that is no event. Or it hands back the run that
 /// needs files or sockets, with nothing read or written. A word that is no text is reported, and so are hosts that may
-/// not be given: that ends with 2. Words that can't be had, or a run for which there is no memory, are reported as 40,
-/// and end with 1. The replies to the lines of one read go out together, before the next read, so that whoever types a
-/// line is answered at once; and after a fault those go out that came before it.
+/// not be given: that ends with 2. Words that can't be had, or a run for which there is no memory, are reported as
+/// `WantOfMemory`, and end with 1. The replies to the lines of one read go out together, before the next read, so that
+/// whoever types a line is answered at once; and after a fault those go out that came before it.
 pub fn run_given(host: &HostRuntime) -> Result<u8, HostRun>
     ensures status { IfOk result (λ status. status ≤ REFUSED) }
     ensures range { IfErr result IsRunInRange }

@@ -127,7 +127,7 @@ pub fn run_words<R: ReadPieces, W: WriteTexts, E: Write>(
         ⊎ IsNoScript (map (λ s. s.now) words.now) (R.remaining reader.old) (R.remaining reader.new)) }
     ensures refused_unwritten { IfOk result (λ end. end ≡ ends.Refused →
         Keeps (W.contents writer.old) (W.contents writer.new)) }
-    // After a fault the standard error is told of the very fault that is given, by which the run can have ended, and of
+    // After a fault the very fault that is given is printed to standard error, by which the run can have ended, and
     // nothing where all went well.
     ensures printed { IfOk result (λ end. IfSome (fault_in end)
         (TellsFault (IsWordsFault (map (λ s. s.now) words.now)
@@ -135,8 +135,8 @@ pub fn run_words<R: ReadPieces, W: WriteTexts, E: Write>(
         (E.contents errors.old) (E.contents errors.new))) }
     ensures unprinted { IfOk result (λ end. end ≡ ends.Done →
         Keeps (E.contents errors.old) (E.contents errors.new)) }
-    // That fault is the one of the call that failed, by the counts of the streams: 43 where a read did, and 44 where a
-    // write did. Where none failed it is 40, or there is none.
+    // That fault is the one of the call that failed, by the counts of the streams: `ReadFault` where a read did, and
+    // `WriteFault` where a write did. Where none failed it is `WantOfMemory`, or there is none.
     ensures calls { IfOk result (λ end. IsEndByCalls (fault_in end)
         (R.failed reader.old) (R.failed reader.new) (W.failed writer.old) (W.failed writer.new)) }
     // Where files or sockets are needed, the words ask for what is handed back, and nothing was read or written.

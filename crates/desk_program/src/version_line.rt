@@ -12,7 +12,7 @@ use desk_options::VERSION;
 use desk_output::LinePart::Text;
 use desk_types::Refusal;
 
-/// Writes the line that tells the version. A write that fails is 44.
+/// Writes the line that tells the version. A write that fails is `WriteFault`.
 pub(crate) fn write_version<W: WriteTexts>(writer: &mut W) -> Result<(), Refusal>
     ensures ok { OnOk result (Appends (W.contents writer.old) (W.contents writer.new) version_line) }
     ensures err { OnErr result (AppendsPrefix (W.contents writer.old) (W.contents writer.new) version_line) }

@@ -33,7 +33,7 @@ pub struct Opened<R: Read> {
     ghost until_within: { until ≤ ROOM_BYTES },
 }
 
-// It is written out, so that a caller does not prove again how each part is dropped.
+// Written out, so that callers need not prove each part's drop.
 impl<R: Read + Drop> Drop for Opened<R> {
     fn drop(self) {
         let Opened {

@@ -40,7 +40,7 @@ fn tag_after(bytes: &[u8], front: usize) -> [u8; 32]
     tag
 }
 
-/// Whether the bytes begin with the right record of a count. True is told of such a record alone.
+/// Whether the bytes begin with the right record of a count. True is the answer for such a record alone.
 pub(crate) fn is_right(key: &HmacKey, count: u64, bytes: &[u8]) -> bool
     requires { LENGTH_BYTES ≤ length bytes.now }
     ensures { result ≡ true → is_right key.now.block.value count bytes.now ≡ true }

@@ -26,7 +26,7 @@ pub struct Sealed<W: Write> {
         key.block.value (W.contents first.value) (W.contents inner) count },
 }
 
-// It is written out, so that a caller does not prove again how each part is dropped.
+// Written out, so that callers need not prove each part's drop.
 impl<W: Write + Drop> Drop for Sealed<W> {
     fn drop(self) {
         let Sealed {

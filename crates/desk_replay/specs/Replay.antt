@@ -35,15 +35,15 @@ AnswersAs outcome after a = (outcome ≡ a.outcome) × (after ≡ a.after)
 abbrev pub same_log_answer : BoardLog → Outcome → LineAnswer
 same_log_answer b outcome = record { outcome = outcome; after = b }
 
--- The entry takes the next place of the log, and the board's reply there is told.
+-- The entry takes the next place of the log, and the board's reply there is written.
 abbrev pub append_answer : BoardLog → Entry → LineAnswer
 append_answer b e = record {
   outcome = outcomes.Command e.client e.number (execute (board_of b.domain b.log) (length b.log + 1) e).1;
   after = log_with_entry b e;
 }
 
--- The reply at the place of the client's latest entry is told again, whatever the command is. Each place of a log has a
--- reply; where there were none, the entry would be new.
+-- The reply at the place of the client's latest entry is written again, whatever the command is. Each place of a log
+-- has a reply; where there were none, the entry would be new.
 abbrev pub retry_answer : BoardLog → Entry → Option Reply → LineAnswer
 retry_answer b e (Some reply) = same_log_answer b (outcomes.Command e.client e.number reply)
 retry_answer b e None = append_answer b e

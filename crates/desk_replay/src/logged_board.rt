@@ -36,7 +36,7 @@ pub(crate) struct LoggedBoard {
     alloc: Global,
 }
 
-// It is written out, so that a caller does not prove again how each part is dropped.
+// Written out, so that callers need not prove each part's drop.
 impl Drop for LoggedBoard {
     fn drop(self) {
         let LoggedBoard {

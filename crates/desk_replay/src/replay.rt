@@ -20,7 +20,7 @@ struct ReplayHandler {
     board: Box<LoggedBoard>,
 }
 
-// It is written out, so that a caller does not prove again how each part is dropped.
+// Written out, so that callers need not prove each part's drop.
 impl Drop for ReplayHandler {
     fn drop(self) {
         let ReplayHandler { board: _ } = self;
@@ -59,8 +59,8 @@ impl Handler for ReplayHandler {
 /// counts. A longer line is refused, and its rest is thrown away. A log has 65,536 entries, and the copy of a document
 /// 65,536 bytes. The writer is flushed after the lines of each read, so that no reply waits for input.
 ///
-/// It ends where memory is first refused (40), at a read that fails and after 4,294,967,295 reads (43), and at a write
-/// that fails or takes no byte (44).
+/// It ends where memory is first refused (`WantOfMemory`), at a read that fails and after 4,294,967,295 reads
+/// (`ReadFault`), and at a write that fails or takes no byte (`WriteFault`).
 pub fn replay_lines<R: ReadPieces, W: WriteTexts>(
     alloc: Global,
     reader: &mut R,
@@ -78,7 +78,7 @@ pub fn replay_lines<R: ReadPieces, W: WriteTexts>(
     ensures whole { IfErr result (λ r. r ≢ refusals.WriteFault → IfSome (R.remaining reader.old)
         (λ input. AppendsReplies (W.contents writer.old) (W.contents writer.new) domain input)) }
     ensures fault { IfErr result IsStreamFault }
-    // The fault that is told is that of the one call that failed, where one did.
+    // The fault that is reported is that of the one call that failed, where one did.
     ensures calls { MatchResult result
         (λ _. NoneFailed (R.failed reader.old) (R.failed reader.new) (W.failed writer.old) (W.failed writer.new))
         (λ r. IsStreamsFault IsWant r

@@ -10,8 +10,8 @@ use desk_output::{READ_BYTES, ReadCount};
 use desk_types::Refusal;
 use std::alloc::Global;
 
-/// Reads to the end of an input. Where memory is refused that is 40; at a read that fails, and after 4,294,967,295
-/// reads, it is 43.
+/// Reads to the end of an input. Where memory is refused that is `WantOfMemory`; at a read that fails, and after
+/// 4,294,967,295 reads, it is `ReadFault`.
 pub(crate) fn read_input<R: ReadPieces>(alloc: Global, reader: &mut R) -> Result<Vec<u8>, Refusal>
     ensures bytes { IfOk result (λ bytes. IfSome (R.remaining reader.old) (λ input. bytes.items ≡ input)) }
     ensures end { OnOk result (IsAtEnd (R.remaining reader.new)) }

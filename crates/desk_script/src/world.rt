@@ -76,8 +76,8 @@ impl From<WantOfMemory> for WorldFault {
 /// tabs and carriage returns alone is skipped, and a last line without a newline counts. All lines are read before
 /// anything is written.
 ///
-/// It ends where memory is first refused (40), at a read that fails and after 4,294,967,295 reads (43), and at a write
-/// that fails or takes no byte (44).
+/// It ends where memory is first refused (`WantOfMemory`), at a read that fails and after 4,294,967,295 reads
+/// (`ReadFault`), and at a write that fails or takes no byte (`WriteFault`).
 pub fn world_lines<R: ReadPieces, W: WriteTexts>(
     alloc: Global,
     reader: &mut R,
@@ -103,7 +103,7 @@ pub fn world_lines<R: ReadPieces, W: WriteTexts>(
         IfSome (R.remaining reader.old)
         (λ input. AppendsWorldPrefix (W.contents writer.old) (W.contents writer.new) domain n input)) }
     ensures fault { IfErr result IsWorldFault }
-    // The fault that is told is that of the one call that failed, where one did.
+    // The fault that is reported is that of the one call that failed, where one did.
     ensures calls { MatchResult result
         (λ _. NoneFailed (R.failed reader.old) (R.failed reader.new) (W.failed writer.old) (W.failed writer.new))
         (λ fault. IsWorldStreamsFault fault

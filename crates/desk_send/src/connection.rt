@@ -21,7 +21,7 @@ pub struct NodeConnection<B: BufRead, W: Write> {
     is_broken: bool,
 }
 
-// It is written out, so that a caller does not prove again how each part is dropped.
+// Written out, so that callers need not prove each part's drop.
 impl<B: BufRead + Drop, W: Write + Drop> Drop for NodeConnection<B, W> {
     fn drop(self) {
         let NodeConnection {
@@ -84,9 +84,9 @@ impl<B: BufRead, W: Write> NodeConnection<B, W> {
 
 /// The node answers a line by the reply line that it gives next.
 ///
-/// It gives up for want of memory (40), and where the node can't be written to, or ends before its reply, or where the
-/// reply line is no UTF-8 or has more than [`REPLY_BYTES`](crate::REPLY_BYTES) bytes (43, and the connection is
-/// broken). No further line is to be sent then: what comes next may belong to an earlier one.
+/// It gives up for want of memory (`WantOfMemory`), and where the node can't be written to, or ends before its reply,
+/// or where the reply line is no UTF-8 or has more than [`REPLY_BYTES`](crate::REPLY_BYTES) bytes (`ReadFault`, and the
+/// connection is broken). No further line is to be sent then: what comes next may belong to an earlier one.
 impl<B: BufRead, W: Write> Handler for NodeConnection<B, W> {
     ghost use Rattle.desk_send.specs.Exchanges.{Exchanged, GivesUp};
 

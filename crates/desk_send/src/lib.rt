@@ -1,4 +1,5 @@
-//! Lines sent to a node: each goes out as it stands, and the reply line that the node gives to it is told as it comes.
+//! Lines sent to a node: each goes out as it stands, and the reply line that the node gives to it is printed as it
+//! comes.
 #![tactic(auto)]
 
 mod connection;

@@ -14,7 +14,7 @@ use desk_types::WantOfMemory;
 use std::alloc::Global;
 use std::io::Write;
 
-/// What goes after the bytes that were kept of a line. A node refuses a long line, whatever its last byte is.
+/// What goes after the bytes that were held of a line. A node refuses a long line, whatever its last byte is.
 fn request_end(is_long: bool) -> &'static str
     ensures { result.now ≡ (if is_long then 32 ∷ 10 ∷ [] else 10 ∷ []) }
 {

@@ -19,8 +19,9 @@ use std::io::{BufRead, Read, Write};
 /// counts. Of a longer line the node is sent the first 65,536 bytes and a space, for it to refuse. The output is
 /// flushed after the lines of each read, so that no reply waits for input.
 ///
-/// It ends where memory is refused (40); at a read of the input that fails, after 4,294,967,295 reads of it, and where
-/// the node fails, of which the connection tells (43); and at a write to the output that fails or takes no byte (44).
+/// It ends where memory is refused (`WantOfMemory`); at a read of the input that fails, after 4,294,967,295 reads of
+/// it, and where the node fails, of which the connection tells (`ReadFault`); and at a write to the output that fails
+/// or takes no byte (`WriteFault`).
 pub fn send_lines<I: Read, O: Write, B: BufRead, W: Write>(
     alloc: Global,
     input: &mut I,

@@ -15,7 +15,7 @@ pub record Exchange : Type 0 where
   pub entry : Entry
   pub answer : Result Saying Refusal
 
--- a word, told with what was published
+-- a word, reported with what was published
 abbrev pub saying : ReportedWord → List Entry → Saying
 saying word published = record { word = word; published = published }
 

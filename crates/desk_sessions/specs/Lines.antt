@@ -25,7 +25,7 @@ abbrev pub LeadsWithoutMemory : Result Ask Refusal → SessionStanding → Sessi
 LeadsWithoutMemory (Ok ask) old new = GivesUpAnswer ask old new
 LeadsWithoutMemory (Err r) old new = new ≡ old
 
--- One outcome is told for a line: what comes of it, or want of memory. This is its line, and where it leads.
+-- One outcome is written for a line: what comes of it, or want of memory. This is its line, and where it leads.
 abbrev pub AnswersLine : List ℕ → SessionStanding → List ℕ → List ℕ → SessionStanding → Type 0
 AnswersLine domain old line text new =
     (outcome : Outcome) × (text ≡ line_of outcome)

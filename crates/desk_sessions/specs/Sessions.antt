@@ -19,7 +19,7 @@ use Rattle.desk_published.specs.declared.reported.ReportedWord.{ReportedWord}
 use Rattle.desk_published.specs.declared.reported.ReportedWord.TheVariants as words
 use Rattle.desk_sessions.specs.Exchanges.{Exchange, Saying, Asked}
 
--- Where a session stands: the published entries that it has seen or was told; what its line was asked and answered,
+-- Where a session stands: the published entries that it has seen or heard of; what its line was asked and answered,
 -- where that tells; and how many of its reads of the board gave no answer.
 pub record SessionStanding : Type 0 where
   pub pass : List Entry
@@ -58,8 +58,8 @@ abbrev pub ReadsBoard : List ℕ → (BoardValue → Outcome) → Outcome → Li
 ReadsBoard domain on unread old new Failed outcome =
     (IsPrefix old new × (outcome ≡ on (board_of domain new))) ⊎ ((new ≡ old) × Failed × (outcome ≡ unread))
 
--- What a keeper's word makes of the request. Where that is published, a board is read that goes on from what was told;
--- it is 34 only where that read failed.
+-- What a keeper's word makes of the request. Where that is published, a board is read that goes on from what was
+-- reported; it is `NodeStopped` only where that read failed.
 abbrev pub ByWord : List ℕ → Entry → ReportedWord → List Entry → List Entry → List Entry → Type 0 → Outcome → Type 0
 ByWord domain e (words.Refused r) reported old new Failed outcome =
     (new ≡ old) × (outcome ≡ outcomes.Node e.client e.number r)

@@ -1,6 +1,6 @@
 //! Sessions: what clients ask, answered through a line to a node's keeper and a reader of its published board. A
-//! command's answer is read off the client's row on a board that goes on from what the keeper told, and a show asks the
-//! keeper nothing.
+//! command's answer is read off the client's row on a board that goes on from what the keeper reported, and a show asks
+//! the keeper nothing.
 #![tactic(auto)]
 
 mod browsers;

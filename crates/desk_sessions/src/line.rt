@@ -21,8 +21,8 @@ pub trait Line<B: BoardName> {
 
     ghost preserved: { Self → Self.Preserved };
 
-    /// Asks a request, and waits for the keeper's word of it. 34 where the keeper has ended, 40 where memory was
-    /// refused.
+    /// Asks a request, and waits for the keeper's word of it. `NodeStopped` where the keeper has ended, `WantOfMemory`
+    /// where memory was refused.
     fn ask<R: Wait>(self, rt: &R, entry: Entry) -> (Self, Result<Reported<B>, Refusal>)
         // The word is that of this request.
         ensures reported { IfOk result.1 (λ t. (t.client ≡ entry.client) × (t.number ≡ entry.number)) }

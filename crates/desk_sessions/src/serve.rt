@@ -102,12 +102,12 @@ impl<'a, R: Wait, B: BoardName, L: Line<B>> Handler for Waiting<'a, R, B, L> {
 /// Serves a session until the reader is at its end.
 ///
 /// A reply line is written for each line that is not skipped, and the writer is flushed after the lines of each read.
-/// Want of memory at a line is the reply to it. It ends where there is no memory for the line that is coming (40), at a
-/// read that fails and after 4,294,967,295 reads (43), and at a write that fails or takes no byte (44). A command that
-/// was asked stays asked.
+/// Want of memory at a line is the reply to it. It ends where there is no memory for the line that is coming
+/// (`WantOfMemory`), at a read that fails and after 4,294,967,295 reads (`ReadFault`), and at a write that fails or
+/// takes no byte (`WriteFault`). A command that was asked stays asked.
 ///
 /// At a line with which a browser's connection begins, an HTTP request line or the front of a TLS handshake, it ends as
-/// at a read that fails (43), and answers neither that line nor any after it.
+/// at a read that fails (`ReadFault`), and answers neither that line nor any after it.
 pub fn serve_session<B: BoardName, L: Line<B>, I: Read, O: Write, G: Gate, R: Wait>(
     rt: &R,
     alloc: Global,

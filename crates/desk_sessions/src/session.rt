@@ -243,9 +243,10 @@ impl<B: BoardName, L: Line<B>> Session<B, L> {
     /// Answers what a document asks for.
     ///
     /// A command is asked on the line. Where the word is that it is published, the answer is read off its client's row
-    /// on a board that goes on from that word: the row's reply, or 35 where the row has another number. It is 34 where
-    /// that board cannot be read or no word came, and the keeper's refusal where it was refused. A show is read off the
-    /// board, and is 34 where that cannot be read. Where memory is refused there is no answer.
+    /// on a board that goes on from that word: the row's reply, or `Superseded` where the row has another number. It is
+    /// `NodeStopped` where that board cannot be read or no word came, and the keeper's refusal where it was refused. A
+    /// show is read off the board, and is `NodeStopped` where that cannot be read. Where memory is refused there is no
+    /// answer.
     pub fn answer<R: Wait>(self, rt: &R, ask: Ask) -> (Session<B, L>, Result<Outcome, WantOfMemory>)
         ensures ok { IfOk result.1 (λ o. AnswersAsk B.domain ask
             (session_standing (L.exchanged self.line) self.reader.pass self.reader.failed_reads)

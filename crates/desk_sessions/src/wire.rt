@@ -53,11 +53,13 @@ impl<B: BoardName> Line<B> for Wire<B> {
 
     ghost preserved = { λ w. w.sender.number };
 
-    /// Puts the request, and waits for its word. Words of other requests are skipped. 34 where the keeper has ended.
+    /// Puts the request, and waits for its word. Words of other requests are skipped. `NodeStopped` where the keeper
+    /// has ended.
     fn ask<R: Wait>(self, rt: &R, entry: Entry) -> (Wire<B>, Result<Reported<B>, Refusal>)
         ensures reported { IfOk result.1 (λ t. (t.client ≡ entry.client) × (t.number ≡ entry.number)) }
         ensures refused { IfErr result.1 (λ r. r ≡ refusals.NodeStopped) }
-        // It is refused only where the mailbox did not take the request, or the channel told that no word will come.
+        // It is refused only where the mailbox did not take the request, or the channel reported that no word will
+        // come.
         ensures ended { OnErr result.1 (HasRefusedOnce self.sender result.0.sender
             ⊎ HasMissedOnce self.words.missed result.0.words.missed) }
         ensures asked { Asked None None entry

@@ -8,7 +8,7 @@ use desk_published::{BoardName, Reported};
 use desk_types::{ClientId, RequestNumber};
 use std::sync::Wait;
 
-/// The keeper's words to a session. It counts how often it was told that none will come.
+/// The keeper's words to a session. It counts how often it found that none will come.
 #[derive(Drop)]
 pub struct KeeperWords<B: BoardName> {
     channel: Receiver<Reported<B>>,
@@ -31,7 +31,7 @@ impl<B: BoardName> KeeperWords<B> {
     }
 
     /// Waits for the word of a request, and skips those of others. `None` where the channel tells that no word will
-    /// come, since the keeper has ended; the contract does not say when it tells that, but counts that it was told.
+    /// come, since the keeper has ended; the contract does not say when it tells that, but counts how often it did.
     pub fn await_word<R: Wait>(
         self,
         rt: &R,

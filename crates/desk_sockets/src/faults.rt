@@ -74,7 +74,7 @@ pub(crate) fn sent_status<E: Write>(
 ) -> u8
     ensures status { result ≤ FAILED }
     ensures done { result ≡ DONE → IsOk outcome.now }
-    // What is told first is the line of what ended them.
+    // What is printed first is the line of what ended them.
     ensures printed { IfErr outcome.now (TellsFirst (E.contents errors.old) (E.contents errors.new)) }
     ensures unprinted { OnOk outcome.now (Keeps (E.contents errors.old) (E.contents errors.new)) }
 {
@@ -103,7 +103,7 @@ pub(crate) fn followed_status<E: Write>(
 ) -> u8
     ensures status { result ≤ FAILED }
     ensures done { result ≡ DONE → IsOk outcome.now }
-    // What is told first is the line of what ended them.
+    // What is printed first is the line of what ended them.
     ensures printed { IfErr outcome.now (TellsFirst (E.contents errors.old) (E.contents errors.new)) }
     ensures unprinted { OnOk outcome.now (Keeps (E.contents errors.old) (E.contents errors.new)) }
 {

@@ -13,14 +13,14 @@ use Rattle.desk_status.specs.declared.answers.NodeAnswer.TheVariants as answers
 use Rattle.desk_status.specs.Lines.{status_line, lines_from}
 
 -- the lines of nodes, and of those that stand after them
-lines_behind : (greatest node : ℕ) (xs ys : List NodeAnswer) →
+lines_after : (greatest node : ℕ) (xs ys : List NodeAnswer) →
     lines_from greatest node (xs ++ ys) ≡ lines_from greatest node xs ++ lines_from greatest (node + length xs) ys
-lines_behind greatest node [] ys =
+lines_after greatest node [] ys =
     let here : node + 0 ≡ node = omega arith in
     rw here refl
-lines_behind greatest node (x ∷ xs) ys =
+lines_after greatest node (x ∷ xs) ys =
     let later : node + 1 + length xs ≡ node + suc (length xs) = omega arith in
-    ap (λ l. status_line greatest node x ++ l) (lines_behind greatest (node + 1) xs ys
+    ap (λ l. status_line greatest node x ++ l) (lines_after greatest (node + 1) xs ys
     ∙ ap (λ n. lines_from greatest (node + 1) xs ++ lines_from greatest n ys) later)
     ∙ sym (append_assoc (status_line greatest node x) (lines_from greatest (node + 1) xs)
     (lines_from greatest (node + suc (length xs)) ys))
@@ -32,7 +32,7 @@ one_more : (greatest : ℕ) (nodes : List NodeAnswer) (i : ℕ) (d : NodeAnswer)
 one_more greatest nodes i d within =
     let many : 0 + length (take i nodes) ≡ i = omega (arith, length-take-le i nodes (omega (arith, within))) in
     ap (lines_from greatest 0) (take_more nodes i d within)
-    ∙ lines_behind greatest 0 (take i nodes) (get_or nodes i d ∷ [])
+    ∙ lines_after greatest 0 (take i nodes) (get_or nodes i d ∷ [])
     ∙ ap (λ n. lines_from greatest 0 (take i nodes) ++ lines_from greatest n (get_or nodes i d ∷ [])) many
     ∙ ap (λ l. lines_from greatest 0 (take i nodes) ++ l) (append-nil (status_line greatest i (get_or nodes i d)))
 
@@ -47,7 +47,7 @@ cut_at : (greatest : ℕ) (nodes : List NodeAnswer) (i : ℕ) (d : NodeAnswer) �
     ++ (status_line greatest i (get_or nodes i d) ++ rest_after greatest nodes i)
 cut_at greatest nodes i d within =
     ap (lines_from greatest 0) (sym (take-append-drop (i + 1) nodes))
-    ∙ lines_behind greatest 0 (take (i + 1) nodes) (drop (i + 1) nodes)
+    ∙ lines_after greatest 0 (take (i + 1) nodes) (drop (i + 1) nodes)
     ∙ ap (λ l. l ++ rest_after greatest nodes i) (one_more greatest nodes i d within)
     ∙ append_assoc (lines_from greatest 0 (take i nodes)) (status_line greatest i (get_or nodes i d))
     (rest_after greatest nodes i)

@@ -12,7 +12,7 @@ pub enum NodeAnswer {
     Up { place: u64, milliseconds: u64 },
 }
 
-/// The place that a node told, and 0 where it is down.
+/// The place that a node reported, and 0 where it is down.
 fn place_or_zero(answer: &NodeAnswer) -> u64
     ensures { result ≡ place_or_zero answer.now }
 {
@@ -25,7 +25,7 @@ fn place_or_zero(answer: &NodeAnswer) -> u64
     }
 }
 
-/// The greatest place that a node told, and 0 where none told one.
+/// The greatest place that a node reported, and 0 where none reported one.
 pub fn greatest_place(answers: &[NodeAnswer]) -> u64
     ensures { result ≡ greatest_place answers.now }
 {
@@ -36,7 +36,7 @@ pub fn greatest_place(answers: &[NodeAnswer]) -> u64
     greatest
 }
 
-/// Whether a node is up, and told this place.
+/// Whether a node is up, and reported this place.
 fn is_level(answer: &NodeAnswer, greatest: u64) -> bool
     ensures { result ≡ is_level greatest answer.now }
 {
@@ -49,7 +49,7 @@ fn is_level(answer: &NodeAnswer, greatest: u64) -> bool
     }
 }
 
-/// How many nodes are up, and told this place.
+/// How many nodes are up, and reported this place.
 fn level_count(answers: &[NodeAnswer], greatest: u64) -> usize
     ensures { result ≡ level_count greatest answers.now }
 {
@@ -62,7 +62,8 @@ fn level_count(answers: &[NodeAnswer], greatest: u64) -> usize
     count
 }
 
-/// Whether more than half of the nodes are level: each of these is up, and told the greatest place that any node told.
+/// Whether more than half of the nodes are level: each of these is up, and reported the greatest place that any node
+/// reported.
 pub fn is_majority_level(answers: &[NodeAnswer]) -> bool
     ensures { result ≡ is_majority_level answers.now }
 {

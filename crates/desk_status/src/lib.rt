@@ -1,4 +1,4 @@
-//! What is told of the nodes of a group: a line a node, and whether a majority is level.
+//! What is printed of the nodes of a group: a line a node, and whether a majority is level.
 #![tactic(auto)]
 
 mod answers;

@@ -1,4 +1,4 @@
-//! What is told of the nodes of a group.
+//! What is printed of the nodes of a group.
 
 ghost use Rattle.std.specs.Prelude.{◌≡◌, ◌≤◌, true, OnOk};
 ghost use Rattle.std.specs.Io.KnownBytes.{Appends};
@@ -50,9 +50,9 @@ fn write_node<W: Write>(
 }
 
 /// Writes a line for each node of a group, in the order of their numbers: `node 0: up, place 57, 0 behind, 1 ms`, or
-/// `node 2: down`. After is a node that told a lower place than another.
+/// `node 2: down`. A node that reported a lower place than another is behind.
 ///
-/// Where a write fails, or takes no byte, that is 44, and a prefix of the lines is written.
+/// Where a write fails, or takes no byte, that is `WriteFault`, and a prefix of the lines is written.
 pub fn write_status<W: Write>(writer: &mut W, answers: &[NodeAnswer]) -> Result<(), Refusal>
     ensures ok { OnOk result
         (Appends (W.contents writer.old) (W.contents writer.new) (status_lines answers.now)) }
@@ -69,8 +69,8 @@ pub fn write_status<W: Write>(writer: &mut W, answers: &[NodeAnswer]) -> Result<
 }
 
 /// Writes the lines of the nodes of a group to the output, and answers the exit status: 0 where more than half of them
-/// are level, as `is_majority_level` says, and else 1. Where the output can not be written, the standard error is told
-/// that (44), and it is 1 too.
+/// are level, as `is_majority_level` says, and else 1. Where the output can not be written, that is printed to standard
+/// error (`WriteFault`), and it is 1 too.
 pub fn status_of<O: Write, E: Write>(answers: &[NodeAnswer], output: &mut O, errors: &mut E) -> u8
     ensures status { result ≤ FAILED }
     ensures done { result ≡ DONE → is_majority_level answers.now ≡ true }

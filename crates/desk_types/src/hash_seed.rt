@@ -37,7 +37,7 @@ impl BuildHasher for HashSeed {
     }
 }
 
-// A seed is not to be told.
+// A seed is not to be revealed.
 impl Debug for HashSeed {
     fn fmt<W: fmt::Write>(&self, f: &mut Formatter<W>) -> fmt::Result {
         f.write_str("HashSeed")

@@ -21,7 +21,7 @@ pub struct ListedIncident {
     pub stand_by: Items<UnitName>,
 }
 
-// It is written out, so that a caller does not prove again how each part is dropped.
+// Written out, so that callers need not prove each part's drop.
 impl Drop for ListedIncident {
     fn drop(self) {
         let ListedIncident {
@@ -39,7 +39,7 @@ pub struct ListedUnit {
     pub stand_by: Option<IncidentId>,
 }
 
-// It is written out, so that a caller does not prove again how each part is dropped.
+// Written out, so that callers need not prove each part's drop.
 impl Drop for ListedUnit {
     fn drop(self) {
         let ListedUnit {

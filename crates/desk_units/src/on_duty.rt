@@ -22,7 +22,7 @@ pub(crate) struct OnDuty {
     names: IndexMap<UnitName, usize, HashSeed>,
 }
 
-// It is written out, so that a caller does not prove again how each part is dropped.
+// Written out, so that callers need not prove each part's drop.
 impl Drop for OnDuty {
     fn drop(self) {
         let OnDuty { slots: _, names: _ } = self;

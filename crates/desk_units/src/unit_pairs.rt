@@ -29,7 +29,7 @@ pub(crate) struct UnitPairs {
     of_incident: Places,
 }
 
-// It is written out, so that a caller does not prove again how each part is dropped.
+// Written out, so that callers need not prove each part's drop.
 impl Drop for UnitPairs {
     fn drop(self) {
         let UnitPairs {

@@ -22,7 +22,7 @@ pub struct Units {
     pub(crate) alloc: Global,
 }
 
-// It is written out, so that a caller does not prove again how each part is dropped.
+// Written out, so that callers need not prove each part's drop.
 impl Drop for Units {
     fn drop(self) {
         let Units {

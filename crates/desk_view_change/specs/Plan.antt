@@ -23,8 +23,8 @@ IsStart s (Some start) = (s.commit ≤ start.commit) × (start.commit ≤ length
 abbrev pub saved_by_plan : SavedValue → ViewChangePlan → SavedValue
 saved_by_plan s plan = saved_with_start (in_view plan.view s) plan.start
 
--- The plan's view is not below the node's, and within the limit, and what the node has committed is kept where the view
--- starts.
+-- The plan's view is not below the node's, and within the limit, and what the node has committed is preserved where the
+-- view starts.
 pub record IsFeasible (s : SavedValue) (plan : ViewChangePlan) : Type 0 where
   pub least : s.view ≤ plan.view
   pub most : plan.view ≤ LAST_VIEW

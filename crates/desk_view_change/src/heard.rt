@@ -20,7 +20,7 @@ pub struct ViewChangeRows {
     alloc: Global,
 }
 
-// It is written out, so that a caller does not prove again how each part is dropped.
+// Written out, so that callers need not prove each part's drop.
 impl Drop for ViewChangeRows {
     fn drop(self) {
         let ViewChangeRows {

@@ -23,7 +23,7 @@ use Rattle.desk_world.specs.declared.world_event.WorldEvent.{WorldEvent}
 use Rattle.desk_world.specs.World.{World, first_world, world, node_of_world, committed_log, messages}
 use Rattle.desk_world.specs.Agreement.{CommittedStays, CommittedAgree, IsAcknowledged, CommittedIsChosen, BoardsAgree}
 use Rattle.desk_world.specs.Agreement.{IdentifiersDiffer, UnitsOnce, UnitsAtOpen, IdentifiersStay, CommittedIsRising}
-use Rattle.desk_world.specs.Agreement.{LatestReplyKept, IsReplyAt, RepliesAgree}
+use Rattle.desk_world.specs.Agreement.{LatestReplyHeld, IsReplyAt, RepliesAgree}
 use Rattle.desk_log.proofs.Prefixes.{prefix_trans, length-prefix, prefix_take}
 use Rattle.desk_world.proofs.FirstEntries.{one_prefix, take-same}
 use Rattle.desk_world.specs.Views.{IsChosen}
@@ -188,8 +188,8 @@ pub committed_is_rising : CommittedIsRising
 committed_is_rising domain n events i group =
     rising_now domain n (world domain n events) i (world_invariant domain n events group)
 
-pub latest_reply_kept : LatestReplyKept
-latest_reply_kept domain n events i group k client =
+pub latest_reply_held : LatestReplyHeld
+latest_reply_held domain n events i group k client =
     rows_are_latest domain (take k (committed_log (world domain n events) i)) client
 
 -- In a rising log one client's number stands at one place, so two replies to it are one reply.

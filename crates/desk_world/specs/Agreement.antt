@@ -67,8 +67,8 @@ abbrev pub CommittedIsRising : Type 0
 CommittedIsRising = OfCommitted (λ domain log. IsRising log)
 
 -- The board of each prefix of what a node has committed keeps each client's latest reply there.
-abbrev pub LatestReplyKept : Type 0
-LatestReplyKept = OfCommitted (λ domain log. (k client : ℕ) →
+abbrev pub LatestReplyHeld : Type 0
+LatestReplyHeld = OfCommitted (λ domain log. (k client : ℕ) →
     row_of client (board_of domain (take k log)) ≡ row domain client (take k log))
 
 -- The reply is that of the entry at a place of a log, and the entry has this client and this number.

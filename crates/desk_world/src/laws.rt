@@ -2,7 +2,7 @@
 
 ghost use Rattle.desk_world.specs.Agreement.{CommittedStays, CommittedAgree, CommittedIsChosen, BoardsAgree};
 ghost use Rattle.desk_world.specs.Agreement.{IdentifiersDiffer, UnitsOnce, UnitsAtOpen, IdentifiersStay};
-ghost use Rattle.desk_world.specs.Agreement.{CommittedIsRising, LatestReplyKept, RepliesAgree};
+ghost use Rattle.desk_world.specs.Agreement.{CommittedIsRising, LatestReplyHeld, RepliesAgree};
 ghost use Rattle.desk_world.specs.Facts.{NumbersNeverFall, OffersAreOne, OffersHaveAcknowledged, StartLogIsOne};
 ghost use Rattle.desk_world.specs.Facts.{NodeLogsAreOfView, OfferLogsAreOfView, StartLogsAreOfView};
 ghost use Rattle.desk_world.specs.Facts.{PrimaryHasViewLog, ChosenStays};
@@ -28,7 +28,7 @@ pub fn agreement()
     // No numbered command is committed twice.
     ensures rising { CommittedIsRising }
     // A board keeps each client's latest reply.
-    ensures rows { LatestReplyKept }
+    ensures rows { LatestReplyHeld }
     // Any two replies to one numbered command are one reply.
     ensures replies { RepliesAgree }
     // View, last normal view and commit of a node never fall.

@@ -23,7 +23,7 @@ pub(crate) struct GroupRun {
     alloc: Global,
 }
 
-// It is written out, so that a caller does not prove again how each part is dropped.
+// Written out, so that callers need not prove each part's drop.
 impl Drop for GroupRun {
     fn drop(self) {
         let GroupRun {

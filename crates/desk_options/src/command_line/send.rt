@@ -88,7 +88,7 @@ Examples: desk send --port 4010 < examples/first-incident.jsonl
     with_hosts(alloc, with_text_option(alloc, command, "host", help))
 }
 
-/// What is told of seconds that are no number from 1 to 3,600.
+/// What is printed of seconds that are no number from 1 to 3,600.
 const SECONDS_FAULT: &str = "desk: seconds must be 1 to 3600\n";
 
 /// The seconds that a text spells.

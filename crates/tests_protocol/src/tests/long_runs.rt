@@ -1,5 +1,5 @@
 //! A node with a long log, and a long run of a group: that no clause says when memory is wanted, a body could refuse
-//! these by 40.
+//! these by `WantOfMemory`.
 
 use super::{domain, entry};
 use desk_log::Saved;

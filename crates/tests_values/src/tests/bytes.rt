@@ -82,7 +82,7 @@ fn packet_again(alloc: Global, bytes: &[u8]) -> u8 {
 /// What is asked of each row of a table of bytes.
 #[derive(Clone, Copy)]
 enum Check {
-    /// They are no body, and are refused by 42.
+    /// They are no body, and are refused by `FrameFault`.
     NoBody,
     /// They are a body, or a packet, which is done or undone.
     Body,

@@ -34,5 +34,5 @@ returns-clause-err g c =
       h.more,
       h.read,
       bad_header c.spellings.ensures.lengths c.args.mark.items h.more c.requires.length c.requires.mark _ refl
-          (subst BeginsNoHeader (c.as_slice.ensures.value ∙ h.new_is) (c.told_header.ensures.none c.in-None.is)),
+          (subst BeginsNoHeader (c.as_slice.ensures.value ∙ h.new_is) (c.written_header.ensures.none c.in-None.is)),
     )

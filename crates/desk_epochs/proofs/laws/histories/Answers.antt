@@ -12,4 +12,4 @@ pub returns-clause-rising : goal.returns-clause-rising
 returns-clause-rising c = rising.histories_rise
 
 pub returns-clause-rows : goal.returns-clause-rows
-returns-clause-rows c = rising.history_replies_kept
+returns-clause-rows c = rising.history_replies_held

@@ -1,6 +1,6 @@
 use Rattle.std.proofs.Common.{◌≡◌, subst}
 use Rattle.sqlite.specs.Held.{state}
-use Rattle.desk_saved.specs.Named.{NamesOwner}
+use Rattle.desk_naming.specs.Named.{NamesOwner}
 use Rattle.desk_file.proofs.Reading.{owner_read}
 use Rattle.desk_file.proofs.faults.cause_of.Goals as goal
 

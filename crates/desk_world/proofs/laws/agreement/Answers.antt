@@ -27,7 +27,7 @@ pub returns-clause-rising : goal.returns-clause-rising
 returns-clause-rising c = agree.committed_is_rising
 
 pub returns-clause-rows : goal.returns-clause-rows
-returns-clause-rows c = agree.latest_reply_kept
+returns-clause-rows c = agree.latest_reply_held
 
 pub returns-clause-replies : goal.returns-clause-replies
 returns-clause-replies c = agree.replies_agree

@@ -31,7 +31,7 @@ fn is_body_put(alloc: Global, command: &Command, body: &[u8]) -> bool {
     is_put && is_behind(out.as_slice(), body)
 }
 
-/// Whether a body is read and put so; or memory is refused, by 40, and it is read when asked again.
+/// Whether a body is read and put so; or memory is refused, by `WantOfMemory`, and it is read when asked again.
 pub fn is_body_done_or_undone(alloc: Global, body: &[u8]) -> bool {
     match get_body(alloc, body) {
         Ok(command) => {
@@ -106,7 +106,7 @@ fn a_packet_is_done_or_undone(rt: HostRuntime) {
     assert!(rt; first_row(rt.alloc(), PACKETS, Check::Packet) == None);
 }
 
-/// Whether bytes that are no packet are refused by 42, when asked again where memory is refused.
+/// Whether bytes that are no packet are refused by `FrameFault`, when asked again where memory is refused.
 fn is_no_packet_at_last(alloc: Global, bytes: &[u8]) -> bool {
     match packet_again(alloc, bytes) {
         40 => packet_again(alloc, bytes) == 42,
