@@ -1,11 +1,11 @@
 //! The committed commands that the files of a node keep, as document lines on the standard output.
 
-ghost use Rattle.std.specs.Prelude.{◌≡◌, ◌≤◌, IfErr, IfOk, string_bytes};
+ghost use Rattle.std.specs.Prelude.{◌≡◌, ◌≤◌, IfErr};
 ghost use Rattle.desk_output.specs.Telling.{TellsFirst};
 ghost use Rattle.desk_output.specs.declared.telling.TheConstants.{FAILED};
-ghost use Rattle.desk_file.specs.Names.{name_in_epoch};
 
 use crate::faults::{shown, unopened_status};
+use crate::names::name_in_epoch;
 use desk_archive::{Archived, archive_database, archived_owner};
 use desk_database::open_copy;
 use desk_options::LogOptions;
@@ -15,20 +15,9 @@ use desk_types::limits::LOG_ENTRIES;
 use desk_types::{Owner, Refusal};
 use sqlite::{Alter, Connection, FileStore};
 use sqlite_disk::Memory;
-use std::alloc::{AllocError, Global};
+use std::alloc::Global;
 use std::fs;
 use std::io::{BufWriter, Write};
-
-/// The name of the file in which a node keeps its state in an epoch: its first file has the name itself, and each other
-/// one the epoch's number after a dot.
-fn name_in_epoch(alloc: Global, file: &str, epoch: u64) -> Result<String, AllocError>
-    ensures { IfOk result (λ name. string_bytes name ≡ name_in_epoch file.now epoch) }
-{
-    if epoch == 0 {
-        return String::from_str(alloc, file);
-    }
-    format!(in alloc; "{}.{}", file, epoch)
-}
 
 /// Tells the standard error what ended the archive of a file, and answers the exit status.
 fn unarchived_status<E: Write>(errors: &mut E, name: &str, refusal: &Refusal) -> u8

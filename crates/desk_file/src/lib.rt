@@ -8,6 +8,7 @@ mod archiving;
 mod ended;
 mod faults;
 mod keys;
+mod names;
 mod opening;
 
 pub use answering::answer_file;
@@ -15,4 +16,5 @@ pub use archiving::log_file;
 pub use ended::{ClosedFile, EndedFile, close_file};
 pub use faults::{FileEnd, NodeFile, closed_status, unopened_status};
 pub use keys::{read_given_key, read_key};
+pub use names::name_in_epoch;
 pub use opening::open_node;

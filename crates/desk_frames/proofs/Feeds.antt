@@ -13,8 +13,8 @@ use Rattle.desk_codec.specs.Spelling.{frame_spelling}
 use Rattle.desk_codec.proofs.Entries.{head_small}
 use Rattle.desk_codec.proofs.Starts.{start_is_front}
 use Rattle.desk_frames.specs.declared.cutter.TheConstants.{ROOM_BYTES}
-use Rattle.desk_frames.specs.declared.frame.Place.{Place}
-use Rattle.desk_frames.specs.declared.frame.Place.TheVariants as places
+use Rattle.desk_frames.specs.declared.frame.FrameStage.{FrameStage}
+use Rattle.desk_frames.specs.declared.frame.FrameStage.TheVariants as stages
 use Rattle.desk_frames.specs.Frame.{FrameState, Stands, position, Moved, IsAwaited, IsFront, PreservedAt}
 use Rattle.desk_frames.specs.Frame.{PreservedAll, PreservedWith}
 use Rattle.desk_frames.specs.Frame.{SoFar, GoesOn, HasCut, StillPreserved, Awaits, front_entries, in_frame}
@@ -25,19 +25,19 @@ use Rattle.desk_frames.proofs.Keeping.{front_self}
 use Rattle.desk_frames.proofs.Steps.{partial_at}
 
 preserved_none : (es : List Entry) (ms : List Message) (f g : FrameState) →
-    ((ds : List Entry) → PreservedAt ds f.place f.entries → PreservedWith ds None g) → PreservedAll es ms f →
+    ((ds : List Entry) → PreservedAt ds f.stage f.entries → PreservedWith ds None g) → PreservedAll es ms f →
     PreservedAll es ms g
 preserved_none es [] f g keeps k = keeps es k
 preserved_none es (m ∷ ms) f g keeps k = k
 
 preserved_some : (es : List Entry) (ms : List Message) (m : Message) (f g : FrameState) →
-    ((ds : List Entry) → PreservedAt ds f.place f.entries → PreservedWith ds (Some m) g) → PreservedAll es ms f →
+    ((ds : List Entry) → PreservedAt ds f.stage f.entries → PreservedWith ds (Some m) g) → PreservedAll es ms f →
     PreservedAll es (ms ++ m ∷ []) g
 preserved_some es [] m f g keeps k = keeps es k
 preserved_some es (q ∷ ms) m f g keeps k = k
 
 pub goes_none : (f g : FrameState) (ms : List Message) (x : List ℕ) → Moved (position f []) x None (position g []) →
-    ((ds : List Entry) → PreservedAt ds f.place f.entries → PreservedWith ds None g) → GoesOn f ms x g ms
+    ((ds : List Entry) → PreservedAt ds f.stage f.entries → PreservedWith ds None g) → GoesOn f ms x g ms
 goes_none f g ms x moved keeps old es done s = record {
   came = (
     s.came.0,
@@ -56,7 +56,7 @@ begins_partial = (refl, inl (omega arith))
 
 pub goes_some : (f g : FrameState) (ms : List Message) (m : Message) (x : List ℕ) →
     Moved (position f []) x (Some m) (position g []) →
-    ((ds : List Entry) → PreservedAt ds f.place f.entries → PreservedWith ds (Some m) g) →
+    ((ds : List Entry) → PreservedAt ds f.stage f.entries → PreservedWith ds (Some m) g) →
     GoesOn f ms x g (ms ++ m ∷ [])
 goes_some f g ms m x moved keeps old es done s = record {
   came = (
@@ -86,19 +86,19 @@ goes_goes f g k ms ns os x y a b old es done s =
 pub goes_nowhere : (f : FrameState) (ms : List Message) → GoesOn f ms [] f ms
 goes_nowhere f ms old es done s = subst (λ (d : List ℕ). SoFar old es d ms f) (sym (append-nil done)) s
 
-still_front : (es : List Entry) (ms : List Message) (f : FrameState) → IsAwaited f.place → PreservedAll es ms f →
+still_front : (es : List Entry) (ms : List Message) (f : FrameState) → IsAwaited f.stage → PreservedAll es ms f →
     IsFront es (front_entries ms f.entries)
 still_front es [] f a k = k a
 still_front es (m ∷ ms) f a k = k
 
 -- memory was refused before anything changed
-pub still_same : (f g : FrameState) (ms ns : List Message) → IsAwaited f.place → g ≡ f → ns ≡ ms →
+pub still_same : (f g : FrameState) (ms ns : List Message) → IsAwaited f.stage → g ≡ f → ns ≡ ms →
     StillPreserved f ms g ns
 still_same f g ms ns a e d old es done s = rw (e, d) (still_front es ms f a s.keeps)
 
 -- memory was refused for the packet, and its entries were taken back
 pub still_back : (f g h : FrameState) (ms ns : List Message) (m : Message) →
-    ((ds : List Entry) → PreservedAt ds f.place f.entries → PreservedWith ds (Some m) g) → h.entries ≡ log_in m →
+    ((ds : List Entry) → PreservedAt ds f.stage f.entries → PreservedWith ds (Some m) g) → h.entries ≡ log_in m →
     ns ≡ ms →
     StillPreserved f ms h ns
 still_back f g h ms ns m keeps e d old es done s = rw d (of ms s.keeps)
@@ -117,8 +117,8 @@ pub on_err_is : {A E : Type 0} (r : Result A E) {P : Type 0} → P → OnErr r P
 on_err_is (Ok x) p = tt
 on_err_is (Err e) p = p
 
-abbrev pub at_place : FrameState → Place → FrameState
-at_place f p = record { place = p; entries = f.entries }
+abbrev pub at_stage : FrameState → FrameStage → FrameState
+at_stage f p = record { stage = p; entries = f.entries }
 
 -- the fields of bytes, one after the other
 
@@ -201,17 +201,17 @@ nil_of [] n = refl
 nil_of (b ∷ x) n = absurd (omega (arith, n))
 
 -- what waits stands after what was taken
-waiting_apart : (f : FrameState) (x bytes : List ℕ) → Stands f.place f.entries → Awaits f.place x →
+waiting_apart : (f : FrameState) (x bytes : List ℕ) → Stands f.stage f.entries → Awaits f.stage x →
     Holds (position f x) bytes → (before : List ℕ) × (bytes ≡ before ++ x) × Holds (position f []) before
-waiting_apart f x bytes = of f.place
+waiting_apart f x bytes = of f.stage
   where
-    of : (p : Place) → Stands p f.entries → Awaits p x → Holds (position (at_place f p) x) bytes →
-        (before : List ℕ) × (bytes ≡ before ++ x) × Holds (position (at_place f p) []) before
-    of places.Length o a h = ([], h.0, begins_partial)
-    of (places.Start announced) o a h =
+    of : (p : FrameStage) → Stands p f.entries → Awaits p x → Holds (position (at_stage f p) x) bytes →
+        (before : List ℕ) × (bytes ≡ before ++ x) × Holds (position (at_stage f p) []) before
+    of stages.Length o a h = ([], h.0, begins_partial)
+    of (stages.Start announced) o a h =
         let w = in_frame announced [] in
         (w, h.0, (sym (append-nil w), partial_at announced [] [] o.1 (omega (arith, o.1.0))))
-    of (places.Entries announced left s more) o a h =
+    of (stages.Entries announced left s more) o a h =
         let w = in_frame announced (begun s f.entries) in (
           w,
           h.0,
@@ -221,37 +221,37 @@ waiting_apart f x bytes = of f.place
                 (omega (arith, o.0.sum, o.2)),
           ),
         )
-    of (places.Doomed left) o a h = (bytes, sym (append-nil bytes) ∙ ap (λ r. bytes ++ r) (sym a), h)
-    of places.Stopped o a h = (bytes, sym (append-nil bytes) ∙ ap (λ r. bytes ++ r) (sym a), h)
+    of (stages.Doomed left) o a h = (bytes, sym (append-nil bytes) ∙ ap (λ r. bytes ++ r) (sym a), h)
+    of stages.Stopped o a h = (bytes, sym (append-nil bytes) ∙ ap (λ r. bytes ++ r) (sym a), h)
 
-waiting_after : (f : FrameState) (x rest : List ℕ) → Stands f.place f.entries → Awaits f.place x →
+waiting_after : (f : FrameState) (x rest : List ℕ) → Stands f.stage f.entries → Awaits f.stage x →
     Holds (position f []) rest → Holds (position f x) (rest ++ x)
-waiting_after f x rest = of f.place
+waiting_after f x rest = of f.stage
   where
-    of : (p : Place) → Stands p f.entries → Awaits p x → Holds (position (at_place f p) []) rest →
-        Holds (position (at_place f p) x) (rest ++ x)
-    of places.Length o a h = (ap (λ r. r ++ x) h.0, inl a)
-    of (places.Start announced) o a h =
+    of : (p : FrameStage) → Stands p f.entries → Awaits p x → Holds (position (at_stage f p) []) rest →
+        Holds (position (at_stage f p) x) (rest ++ x)
+    of stages.Length o a h = (ap (λ r. r ++ x) h.0, inl a)
+    of (stages.Start announced) o a h =
         let w = in_frame announced [] in
         (ap (λ r. r ++ x) (h.0 ∙ append-nil w), partial_at announced [] x o.1 (omega (arith, a.1)))
-    of (places.Entries announced left s more) o a h =
+    of (stages.Entries announced left s more) o a h =
         let w = in_frame announced (begun s f.entries) in (
           ap (λ r. r ++ x) (h.0 ∙ append-nil w),
           partial_at announced (begun s f.entries) x o.0.range
               (omega (arith, o.0.sum, a.1)),
         )
-    of (places.Doomed left) o a h = subst (Holds (Doomed left)) (sym (ap (λ r. rest ++ r) a ∙ append-nil rest)) h
-    of places.Stopped o a h = bad_longer rest x h
+    of (stages.Doomed left) o a h = subst (Holds (Doomed left)) (sym (ap (λ r. rest ++ r) a ∙ append-nil rest)) h
+    of stages.Stopped o a h = bad_longer rest x h
 
 -- nothing of the piece was taken yet
-from_here : (f : FrameState) → Stands f.place f.entries → SoFar (position f []) f.entries [] [] f
+from_here : (f : FrameState) → Stands f.stage f.entries → SoFar (position f []) f.entries [] [] f
 from_here f o = record {
   came = (tt, λ bytes h. (bytes, append-nil bytes, h));
   keeps = λ a. front_self f.entries;
 }
 
-pub came_all : (f g : FrameState) (waited piece waits : List ℕ) (ms : List Message) → Stands f.place f.entries →
-    Stands g.place g.entries → Awaits f.place waited → Awaits g.place waits →
+pub came_all : (f g : FrameState) (waited piece waits : List ℕ) (ms : List Message) → Stands f.stage f.entries →
+    Stands g.stage g.entries → Awaits f.stage waited → Awaits g.stage waits →
     HasCut (waited ++ piece) f [] waits g ms → Came (position f waited) piece ms (position g waits)
 came_all f g waited piece waits ms o p a b cut =
     let x = cut.0 in
@@ -271,7 +271,7 @@ came_all f g waited piece waits ms o p a b cut =
     )
 
 -- the entries that stood first are all there
-pub preserved_count : (f g : FrameState) (ms : List Message) → Stands f.place f.entries → StillPreserved f [] g ms →
+pub preserved_count : (f g : FrameState) (ms : List Message) → Stands f.stage f.entries → StillPreserved f [] g ms →
     (length f.entries ≤ length (front_entries ms g.entries))
     × (take (length f.entries) (front_entries ms g.entries) ≡ f.entries)
 preserved_count f g ms o preserved =
@@ -282,19 +282,19 @@ preserved_count f g ms o preserved =
     )
 
 -- what waits has room
-pub awaits_room : (p : Place) (x : List ℕ) → Awaits p x → length x < ROOM_BYTES
-awaits_room places.Length x a = omega (arith, a)
-awaits_room (places.Start announced) x a = omega (arith, start_is_front.needs x a.0)
-awaits_room (places.Entries announced left s more) x a = elim a.0 [
+pub awaits_room : (p : FrameStage) (x : List ℕ) → Awaits p x → length x < ROOM_BYTES
+awaits_room stages.Length x a = omega (arith, a)
+awaits_room (stages.Start announced) x a = omega (arith, start_is_front.needs x a.0)
+awaits_room (stages.Entries announced left s more) x a = elim a.0 [
   | inl few ↦ omega (arith, few)
   | inr h ↦ let small = head_small x h.0 h.1 in omega (arith, h.2, small)
 ]
-awaits_room (places.Doomed left) x a = omega (arith, ap length a)
-awaits_room places.Stopped x a = omega (arith, ap length a)
+awaits_room (stages.Doomed left) x a = omega (arith, ap length a)
+awaits_room stages.Stopped x a = omega (arith, ap length a)
 
 pub came_taken : (f g : FrameState) (room before after piece : List ℕ) (n k : ℕ) (ms ns : List Message) →
-    Stands f.place f.entries → Stands g.place g.entries → Awaits f.place (take n room) →
-    Awaits g.place (take k after) → before ≡ room → ns ≡ [] →
+    Stands f.stage f.entries → Stands g.stage g.entries → Awaits f.stage (take n room) →
+    Awaits g.stage (take k after) → before ≡ room → ns ≡ [] →
     HasCut (take n before ++ piece) f ns (take k after) g ms →
     Came (position f (take n room)) piece ms (position g (take k after))
 came_taken f g room before after piece n k ms ns o p a b same none cut =
@@ -303,13 +303,13 @@ came_taken f g room before after piece n k ms ns o p a b same none cut =
     (subst (λ (x : List Message). HasCut (take n before ++ piece) f x (take k after) g ms) none cut))
 
 -- it stands as it did
-pub stands_same : (f g h : FrameState) (ms : List Message) (p : Place) (n : ℕ) (x y : List ℕ) →
-    Stands f.place f.entries → StillPreserved f [] g ms → p ≡ f.place → n ≡ length f.entries →
-    h ≡ record { place = p; entries = take n (front_entries ms g.entries) } → x ≡ y → position h x ≡ position f y
-stands_same f g h ms p n x y o preserved place count is same =
+pub stands_same : (f g h : FrameState) (ms : List Message) (p : FrameStage) (n : ℕ) (x y : List ℕ) →
+    Stands f.stage f.entries → StillPreserved f [] g ms → p ≡ f.stage → n ≡ length f.entries →
+    h ≡ record { stage = p; entries = take n (front_entries ms g.entries) } → x ≡ y → position h x ≡ position f y
+stands_same f g h ms p n x y o preserved stage count is same =
     let all : take n (front_entries ms g.entries) ≡ f.entries =
     ap (λ i. take i (front_entries ms g.entries)) count ∙ (preserved_count f g ms o preserved).1 in
     let back : h ≡ f =
-    is ∙ ap (λ (q : Place). record { place = q; entries = take n (front_entries ms g.entries) }) place
-    ∙ ap (λ (es : List Entry). record { place = f.place; entries = es }) all in
+    is ∙ ap (λ (q : FrameStage). record { stage = q; entries = take n (front_entries ms g.entries) }) stage
+    ∙ ap (λ (es : List Entry). record { stage = f.stage; entries = es }) all in
     ap (λ (i : FrameState). position i x) back ∙ ap (λ (z : List ℕ). position f z) same

@@ -38,12 +38,12 @@ log_front (StartView from view commit log) es ds e f h = front_front es ds log f
 log_front (NewState from view base commit entries) es ds e f h = front_front es ds entries f (e ∷ [], sym h)
 
 -- an entry came
-pub entry_keeps : (f g : FrameState) (e : Entry) (packet : Option Message) → IsAwaited f.place →
-    HasEntries (f.entries ++ e ∷ []) packet g.place g.entries → (es : List Entry) → PreservedAt es f.place f.entries →
+pub entry_keeps : (f g : FrameState) (e : Entry) (packet : Option Message) → IsAwaited f.stage →
+    HasEntries (f.entries ++ e ∷ []) packet g.stage g.entries → (es : List Entry) → PreservedAt es f.stage f.entries →
     PreservedWith es packet g
 entry_keeps f g e packet a has es k = of packet has
   where
-    of : (packet : Option Message) → HasEntries (f.entries ++ e ∷ []) packet g.place g.entries →
+    of : (packet : Option Message) → HasEntries (f.entries ++ e ∷ []) packet g.stage g.entries →
         PreservedWith es packet g
     of None has = λ b. front_front es (f.entries ++ e ∷ []) g.entries
         (front_front es f.entries (f.entries ++ e ∷ []) (k a) (e ∷ [], refl)) (has b)
@@ -54,11 +54,11 @@ nil_front [] ds f = (ds, refl)
 nil_front (y ∷ ys) ds f = absurd (omega (arith, ap length f.1, length-append (y ∷ ys) f.0))
 
 -- a start came, before which there was no entry
-pub start_keeps : (f g : FrameState) (packet : Option Message) → IsAwaited f.place → f.entries ≡ [] →
-    HasEntries f.entries packet g.place g.entries → (es : List Entry) → PreservedAt es f.place f.entries →
+pub start_keeps : (f g : FrameState) (packet : Option Message) → IsAwaited f.stage → f.entries ≡ [] →
+    HasEntries f.entries packet g.stage g.entries → (es : List Entry) → PreservedAt es f.stage f.entries →
     PreservedWith es packet g
 start_keeps f g packet a none has es k = of packet has
   where
-    of : (packet : Option Message) → HasEntries f.entries packet g.place g.entries → PreservedWith es packet g
+    of : (packet : Option Message) → HasEntries f.entries packet g.stage g.entries → PreservedWith es packet g
     of None has = λ b. front_front es f.entries g.entries (k a) (has b)
     of (Some m) has = nil_front es (log_in m) (subst (IsFront es) none (k a))

@@ -26,10 +26,10 @@ use Rattle.desk_codec.proofs.Leads.{no_entry, only_these, short_none, short_star
 use Rattle.desk_codec.proofs.Packets.{packet_length}
 use Rattle.desk_codec.proofs.Starts.{start_is_front}
 use Rattle.desk_codec.proofs.Wholes.{begun_with}
-use Rattle.desk_frames.specs.declared.frame.Place.{Place}
-use Rattle.desk_frames.specs.declared.frame.Place.TheVariants as places
+use Rattle.desk_frames.specs.declared.frame.FrameStage.{FrameStage}
+use Rattle.desk_frames.specs.declared.frame.FrameStage.TheVariants as stages
 use Rattle.desk_frames.specs.Frame.{FrameState, IsOpen, Stands, position, AfterPart, Arrives, Moved, in_frame}
-use Rattle.desk_frames.specs.Frame.{Awaits, Covers, place_after_length}
+use Rattle.desk_frames.specs.Frame.{Awaits, Covers, stage_after_length}
 use Rattle.desk_frames.specs.Stream.{Standing, Open, Doomed, Stopped, Holds, BeginsNone, announced_length, IsPartial}
 use Rattle.desk_frames.proofs.Cuttings.{bad_longer}
 use Rattle.desk_frames.proofs.FirstFrames.{announced_is, bad_length}
@@ -79,7 +79,7 @@ module _ (announced left : ℕ) (f : PacketStart) (es : List Entry) (more : ℕ)
   b = begun f es
 
   -- another entry comes
-  pub goes_open : 0 < more → 0 < left → AfterPart announced f es None (places.Entries announced left f more) es
+  pub goes_open : 0 < more → 0 < left → AfterPart announced f es None (stages.Entries announced left f more) es
   goes_open some lt = record {
     arrives = (
       sym (append-nil (in_frame announced b)),
@@ -108,7 +108,7 @@ module _ (announced left : ℕ) (f : PacketStart) (es : List Entry) (more : ℕ)
   short_begins x some le needs = none_frame announced (b ++ take left x) o.range.1
       (short_of (take left x) some (length-take-le left x le) needs)
 
-  pub goes_short : 0 < more → left ≡ 0 → AfterPart announced f es None places.Stopped es
+  pub goes_short : 0 < more → left ≡ 0 → AfterPart announced f es None stages.Stopped es
   goes_short some none = record {
     arrives = none_frame announced b o.range.1
         (subst (NoneOf announced) (append-nil b) (short_of [] some (sym none) (inl (omega arith))));
@@ -118,7 +118,7 @@ module _ (announced left : ℕ) (f : PacketStart) (es : List Entry) (more : ℕ)
 
   -- the packet is whole
   pub goes_whole : (m : Message) (now : List Entry) → more ≡ 0 → left ≡ 0 → now ≡ [] → PacketOf f es (Some m) →
-      AfterPart announced f es (Some m) places.Length now
+      AfterPart announced f es (Some m) stages.Length now
   unfolding frame_spelling
   goes_whole m now all none is p =
       let len : length (packet_spelling m) ≡ announced = ap length p.1 ∙ omega (arith, o.sum, none) in
@@ -135,7 +135,7 @@ module _ (announced left : ℕ) (f : PacketStart) (es : List Entry) (more : ℕ)
       }
 
   -- bytes are left over
-  pub goes_over : (now : List Entry) → more ≡ 0 → 0 < left → AfterPart announced f es None (places.Doomed left) now
+  pub goes_over : (now : List Entry) → more ≡ 0 → 0 < left → AfterPart announced f es None (stages.Doomed left) now
   goes_over now none some =
       let never : NoneOf announced b = λ n rest others fits len h.
       let whole = these_are f es more o.has none n rest others fits h in
@@ -156,7 +156,7 @@ module _ (announced left : ℕ) (f : PacketStart) (es : List Entry) (more : ℕ)
 
   -- no packet has them
   pub goes_nowhere : (now : List Entry) → more ≡ 0 → PacketOf f es None →
-      AfterPart announced f es None places.Stopped now
+      AfterPart announced f es None stages.Stopped now
   goes_nowhere now none p =
       let never : NoneOf announced b = λ n rest others fits len h.
       let same = only_these f es more o.has none n rest others fits h in
@@ -168,13 +168,13 @@ module _ (announced left : ℕ) (f : PacketStart) (es : List Entry) (more : ℕ)
 abbrev pub MovesTo : FrameState → List ℕ → FrameState → Type 0
 MovesTo f x g = (bytes : List ℕ) → Holds (position f []) bytes → Holds (position g []) (bytes ++ x)
 
-standing_at : (f : FrameState) (p : Place) → f.place ≡ p →
-    position f [] ≡ position (record { place = p; entries = f.entries }) []
-standing_at f p e = ap (λ (p : Place). position (record { place = p; entries = f.entries }) []) e
+standing_at : (f : FrameState) (p : FrameStage) → f.stage ≡ p →
+    position f [] ≡ position (record { stage = p; entries = f.entries }) []
+standing_at f p e = ap (λ (p : FrameStage). position (record { stage = p; entries = f.entries }) []) e
 
 -- a frame stands as what it is seen as
-pub stands_seen : (f g : FrameState) → g ≡ f → Stands g.place g.entries → Stands f.place f.entries
-stands_seen f g e stands = subst (λ (k : FrameState). Stands k.place k.entries) e stands
+pub stands_seen : (f g : FrameState) → g ≡ f → Stands g.stage g.entries → Stands f.stage f.entries
+stands_seen f g e stands = subst (λ (k : FrameState). Stands k.stage k.entries) e stands
 
 -- what came after some bytes of the frame
 arrives_moved : (f g : FrameState) (announced : ℕ) (front y x : List ℕ) (packet : Option Message) →
@@ -217,19 +217,19 @@ short_by n k none = of (nat_le n k) refl
     of false z = grind (arith, nat_tests, z)
 
 module _ (announced left : ℕ) (s : PacketStart) (more : ℕ) (f : FrameState)
-    (e : f.place ≡ places.Entries announced left s more) (stands : Stands f.place f.entries) where
+    (e : f.stage ≡ stages.Entries announced left s more) (stands : Stands f.stage f.entries) where
   pub is_open : IsOpen announced left s f.entries more × (0 < more) × (0 < left)
-  is_open = subst (λ (p : Place). Stands p f.entries) e stands
+  is_open = subst (λ (p : FrameStage). Stands p f.entries) e stands
 
   old_is : position f [] ≡ Open (in_frame announced (begun s f.entries) ++ [])
-  old_is = standing_at f (places.Entries announced left s more) e
+  old_is = standing_at f (stages.Entries announced left s more) e
 
-  waits : (x : List ℕ) → Awaits f.place x → EntryNeeds x × (length x < left)
-  waits x a = subst (λ (p : Place). Awaits p x) e a
+  waits : (x : List ℕ) → Awaits f.stage x → EntryNeeds x × (length x < left)
+  waits x a = subst (λ (p : FrameStage). Awaits p x) e a
 
   pub entry_moves : (g : FrameState) (entry : Entry) (n : ℕ) (bytes : List ℕ) (packet : Option Message) →
       n ≤ length (take left bytes) → SpellsEntry entry (take n (take left bytes)) →
-      AfterPart announced s (f.entries ++ entry ∷ []) packet g.place g.entries →
+      AfterPart announced s (f.entries ++ entry ∷ []) packet g.stage g.entries →
       Moved (position f []) (take n bytes) packet (position g [])
   entry_moves g entry n bytes packet le spells beyond =
       arrives_moved f g announced (begun s f.entries) (begun s (f.entries ++ entry ∷ [])) (take n bytes) packet old_is
@@ -237,7 +237,7 @@ module _ (announced left : ℕ) (s : PacketStart) (more : ℕ) (f : FrameState)
       ∙ sym (begun_with s f.entries entry)) beyond.arrives
 
   pub entry_covers : (entry : Entry) (n : ℕ) (bytes : List ℕ) → n ≤ length (take left bytes) →
-      SpellsEntry entry (take n (take left bytes)) → Covers f.place bytes n
+      SpellsEntry entry (take n (take left bytes)) → Covers f.stage bytes n
   entry_covers entry n bytes le spells x y is a = short_by n (length x) (λ few.
       let front : take n x ≡ entry_spelling entry =
       sym (take-append-le n x y few) ∙ ap (take n) (sym is) ∙ sym (front_same left n bytes le) ∙ spells.spelling in
@@ -245,37 +245,37 @@ module _ (announced left : ℕ) (s : PacketStart) (more : ℕ) (f : FrameState)
       (sym (take-append-drop n x) ∙ ap (λ r. r ++ drop n x) front))
 
   pub stops_none : (x : List ℕ) (now : List Entry) → BeginsNoEntry s.head.version (take left x) →
-      MovesTo f (take (length x) x) (record { place = places.Stopped; entries = now })
+      MovesTo f (take (length x) x) (record { stage = stages.Stopped; entries = now })
   stops_none x now none =
-      arrives_moved f (record { place = places.Stopped; entries = now }) announced (begun s f.entries)
+      arrives_moved f (record { stage = stages.Stopped; entries = now }) announced (begun s f.entries)
       (begun s f.entries ++ x) (take (length x) x) None old_is
       (ap (λ r. begun s f.entries ++ r) (take_all (length x) x (omega arith)))
       (none_begins announced left s f.entries more is_open.0 x is_open.1 none)
 
   pub stops_short : (x : List ℕ) (now : List Entry) → left ≤ length x → EntryNeeds (take left x) →
-      MovesTo f (take left x) (record { place = places.Stopped; entries = now })
+      MovesTo f (take left x) (record { stage = stages.Stopped; entries = now })
   stops_short x now le needs =
-      arrives_moved f (record { place = places.Stopped; entries = now }) announced (begun s f.entries)
+      arrives_moved f (record { stage = stages.Stopped; entries = now }) announced (begun s f.entries)
       (begun s f.entries ++ take left x) (take left x) None old_is refl
       (short_begins announced left s f.entries more is_open.0 x is_open.1 le needs)
 
-  pub left_covers : (bytes : List ℕ) → Covers f.place bytes left
+  pub left_covers : (bytes : List ℕ) → Covers f.stage bytes left
   left_covers bytes x y is a = omega (arith, (waits x a).1)
 
-module _ (announced : ℕ) (f : FrameState) (e : f.place ≡ places.Start announced) (stands : Stands f.place f.entries)
+module _ (announced : ℕ) (f : FrameState) (e : f.stage ≡ stages.Start announced) (stands : Stands f.stage f.entries)
   where
     pub starts : (f.entries ≡ []) × IsPacketLength announced
-    starts = subst (λ (p : Place). Stands p f.entries) e stands
+    starts = subst (λ (p : FrameStage). Stands p f.entries) e stands
 
     start_is : position f [] ≡ Open (in_frame announced [] ++ [])
-    start_is = standing_at f (places.Start announced) e
+    start_is = standing_at f (stages.Start announced) e
 
-    start_waits : (x : List ℕ) → Awaits f.place x → (front_start x ≡ Err Needs) × (length x < announced)
-    start_waits x a = subst (λ (p : Place). Awaits p x) e a
+    start_waits : (x : List ℕ) → Awaits f.stage x → (front_start x ≡ Err Needs) × (length x < announced)
+    start_waits x a = subst (λ (p : FrameStage). Awaits p x) e a
 
     pub start_moves : (g : FrameState) (s : PacketStart) (n : ℕ) (bytes : List ℕ) (packet : Option Message) →
         n ≤ length (take announced bytes) → take n (take announced bytes) ≡ start_spelling s →
-        AfterPart announced s f.entries packet g.place g.entries →
+        AfterPart announced s f.entries packet g.stage g.entries →
         Moved (position f []) (take n bytes) packet (position g [])
     start_moves g s n bytes packet le is beyond =
         arrives_moved f g announced [] (begun s f.entries) (take n bytes) packet start_is
@@ -284,7 +284,7 @@ module _ (announced : ℕ) (f : FrameState) (e : f.place ≡ places.Start announ
 
     pub start_covers : (s : PacketStart) (n : ℕ) (bytes : List ℕ) → n ≤ length (take announced bytes) →
         take n (take announced bytes) ≡ start_spelling s → front_start (start_spelling s) ≡ Ok (s, []) →
-        Covers f.place bytes n
+        Covers f.stage bytes n
     start_covers s n bytes le front reads x y is a = short_by n (length x) (λ few.
         let begins : take n x ≡ start_spelling s =
         sym (take-append-le n x y few) ∙ ap (take n) (sym is) ∙ sym (front_same announced n bytes le) ∙ front in
@@ -294,9 +294,9 @@ module _ (announced : ℕ) (f : FrameState) (e : f.place ≡ places.Start announ
         ∙ ap front_start (sym whole) ∙ (start_waits x a).0))
 
     pub start_none : (x : List ℕ) (now : List Entry) → NoStart (take announced x) →
-        MovesTo f (take (length x) x) (record { place = places.Stopped; entries = now })
+        MovesTo f (take (length x) x) (record { stage = stages.Stopped; entries = now })
     start_none x now none =
-        arrives_moved f (record { place = places.Stopped; entries = now }) announced [] x (take (length x) x) None
+        arrives_moved f (record { stage = stages.Stopped; entries = now }) announced [] x (take (length x) x) None
         start_is
         (take_all (length x) x (omega arith)) (none_frame announced x starts.1.1 (λ m more others fits len h.
         none m (drop announced x ++ more) others fits
@@ -305,19 +305,19 @@ module _ (announced : ℕ) (f : FrameState) (e : f.place ≡ places.Start announ
 
     pub start_short : (x : List ℕ) (now : List Entry) → announced ≤ length x →
         front_start (take announced x) ≡ Err Needs →
-        MovesTo f (take announced x) (record { place = places.Stopped; entries = now })
+        MovesTo f (take announced x) (record { stage = stages.Stopped; entries = now })
     start_short x now le needs =
-        arrives_moved f (record { place = places.Stopped; entries = now }) announced [] (take announced x)
+        arrives_moved f (record { stage = stages.Stopped; entries = now }) announced [] (take announced x)
         (take announced x) None
         start_is refl (none_frame announced (take announced x) starts.1.1
         (whole_none announced (take announced x) (length-take-le announced x le)
         (λ m fits h. short_start (take announced x) needs m fits h)))
 
-    pub announced_covers : (bytes : List ℕ) → Covers f.place bytes announced
+    pub announced_covers : (bytes : List ℕ) → Covers f.stage bytes announced
     announced_covers bytes x y is a = omega (arith, (start_waits x a).1)
 
 -- all of the bytes are taken
-pub all_covers : (p : Place) (bytes : List ℕ) → Covers p bytes (length bytes)
+pub all_covers : (p : FrameStage) (bytes : List ℕ) → Covers p bytes (length bytes)
 all_covers p bytes x y is a = omega (arith, ap length is, length-append x y)
 
 -- a start and an entry have bytes
@@ -334,7 +334,7 @@ some_taken n bytes x le is some = omega (arith, length-take-le n bytes le, ap le
 
 -- the length of a frame
 
-module _ (f : FrameState) (begins : f.place ≡ places.Length) (stands : Stands f.place f.entries) (bytes : List ℕ)
+module _ (f : FrameState) (begins : f.stage ≡ stages.Length) (stands : Stands f.stage f.entries) (bytes : List ℕ)
     (n : 4 ≤ length bytes) (h : IsBytes bytes) where
   abbrev announced : ℕ
   announced = announced_length bytes
@@ -343,31 +343,31 @@ module _ (f : FrameState) (begins : f.place ≡ places.Length) (stands : Stands 
   x = take 4 bytes
 
   none : f.entries ≡ []
-  none = subst (λ (p : Place). Stands p f.entries) begins stands
+  none = subst (λ (p : FrameStage). Stands p f.entries) begins stands
 
   old_begins : position f [] ≡ Open []
-  old_begins = standing_at f places.Length begins
+  old_begins = standing_at f stages.Length begins
 
   announced_bytes : in_frame announced [] ≡ x
   announced_bytes = append-nil (to_be_bytes w32 announced)
       ∙ be_bytes_4 x announced (length-take-le 4 bytes n) (IsBytes-take 4 bytes h) refl
 
-  abbrev at : Place → FrameState
-  at p = record { place = p; entries = f.entries }
+  abbrev at : FrameStage → FrameState
+  at p = record { stage = p; entries = f.entries }
 
-  abbrev LengthMoves : Place → Type 0
+  abbrev LengthMoves : FrameStage → Type 0
   LengthMoves p = MovesTo f x (at p) × Stands p f.entries
 
-  from_old : (p : Place) → ((b : List ℕ) → Holds (Open []) b → Holds (position (at p) []) (b ++ x)) →
+  from_old : (p : FrameStage) → ((b : List ℕ) → Holds (Open []) b → Holds (position (at p) []) (b ++ x)) →
       MovesTo f x (at p)
   from_old p moved = subst (λ (old : Standing). Moved old x None (position (at p) [])) (sym old_begins) moved
 
-  moves_in : (b : Bool) → is_packet_length announced ≡ b → LengthMoves (cond b (places.Start announced) places.Stopped)
+  moves_in : (b : Bool) → is_packet_length announced ≡ b → LengthMoves (cond b (stages.Start announced) stages.Stopped)
   moves_in true c =
       let p = and_parts (nat_le HEAD_BYTES announced) (nat_le announced FRAME_BYTES) c in
       let least : HEAD_BYTES ≤ announced = grind (arith, nat_tests, p.0) in
       let most : announced ≤ FRAME_BYTES = grind (arith, nat_tests, p.1) in (
-        from_old (places.Start announced) (λ b hold. (
+        from_old (stages.Start announced) (λ b hold. (
           ap (λ r. r ++ x) hold.0 ∙ sym announced_bytes ∙ sym (append-nil (in_frame announced [])),
           partial_at announced [] [] (least, most) (omega (arith, least)),
         )),
@@ -378,7 +378,7 @@ module _ (f : FrameState) (begins : f.place ≡ places.Length) (stands : Stands 
       subst (λ (k : ℕ). (k < HEAD_BYTES) ⊎ (FRAME_BYTES < k)) (sym same) (out_of (nat_le HEAD_BYTES announced) refl) in
       let bad : BeginsNone x =
       bad_length packet_length x (omega (arith, length-take-le 4 bytes n)) out in (
-        from_old places.Stopped (λ b hold. subst BeginsNone (sym (ap (λ r. r ++ x) hold.0)) bad),
+        from_old stages.Stopped (λ b hold. subst BeginsNone (sym (ap (λ r. r ++ x) hold.0)) bad),
         tt,
       )
     where
@@ -391,22 +391,22 @@ module _ (f : FrameState) (begins : f.place ≡ places.Length) (stands : Stands 
           let high : nat_le announced FRAME_BYTES ≡ false = rw d at c in
           inr (grind (arith, nat_tests, high))
 
-  pub length_moves : (p : Place) → p ≡ place_after_length announced → LengthMoves p
+  pub length_moves : (p : FrameStage) → p ≡ stage_after_length announced → LengthMoves p
   length_moves p is = subst LengthMoves (sym is) (moves_in (is_packet_length announced) refl)
 
-  pub length_covers : Covers f.place bytes 4
+  pub length_covers : Covers f.stage bytes 4
   length_covers y z is a =
-      let lt : length y < 4 = subst (λ (p : Place). Awaits p y) begins a in
+      let lt : length y < 4 = subst (λ (p : FrameStage). Awaits p y) begins a in
       omega (arith, lt)
 
 -- bytes of a frame that no packet begins
 
-module _ (left : ℕ) (f : FrameState) (e : f.place ≡ places.Doomed left) (x : List ℕ) where
+module _ (left : ℕ) (f : FrameState) (e : f.stage ≡ stages.Doomed left) (x : List ℕ) where
   doomed_bytes : (bytes : List ℕ) → Holds (position f []) bytes → Holds (Doomed left) bytes
-  doomed_bytes bytes hold = subst (λ (s : Standing). Holds s bytes) (standing_at f (places.Doomed left) e) hold
+  doomed_bytes bytes hold = subst (λ (s : Standing). Holds s bytes) (standing_at f (stages.Doomed left) e) hold
 
   pub passes_on : (now : List Entry) → length x < left →
-      MovesTo f (take (length x) x) (record { place = places.Doomed (left - length x); entries = now })
+      MovesTo f (take (length x) x) (record { stage = stages.Doomed (left - length x); entries = now })
   passes_on now lt bytes hold =
       let h = doomed_bytes bytes hold in
       let same : announced_length (bytes ++ x) ≡ announced_length bytes =
@@ -421,14 +421,14 @@ module _ (left : ℕ) (f : FrameState) (e : f.place ≡ places.Doomed left) (x :
       )
 
   pub passes_end : (now : List Entry) →
-      MovesTo f (take (length x) x) (record { place = places.Stopped; entries = now })
+      MovesTo f (take (length x) x) (record { stage = stages.Stopped; entries = now })
   passes_end now bytes hold = bad_longer bytes (take (length x) x) (doomed_bytes bytes hold).0
 
 -- where no byte is there, more are needed
-pub awaits_nothing : (p : Place) (es : List Entry) → Stands p es → Awaits p []
+pub awaits_nothing : (p : FrameStage) (es : List Entry) → Stands p es → Awaits p []
 unfolding front_start front_head
-awaits_nothing places.Length es o = omega arith
-awaits_nothing (places.Start announced) es o = (refl, omega (arith, o.1.0))
-awaits_nothing (places.Entries announced left s more) es o = (inl (omega arith), o.2)
-awaits_nothing (places.Doomed left) es o = refl
-awaits_nothing places.Stopped es o = refl
+awaits_nothing stages.Length es o = omega arith
+awaits_nothing (stages.Start announced) es o = (refl, omega (arith, o.1.0))
+awaits_nothing (stages.Entries announced left s more) es o = (inl (omega arith), o.2)
+awaits_nothing (stages.Doomed left) es o = refl
+awaits_nothing stages.Stopped es o = refl

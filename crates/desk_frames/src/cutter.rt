@@ -8,7 +8,7 @@ ghost use Rattle.desk_frames.specs.Frame.{front_entries};
 ghost use Rattle.desk_frames.specs.Reading.{listed, end_answer};
 ghost use Rattle.desk_frames.specs.Stream.{Open, Stopped, Came, Fed, viewed};
 
-use crate::frame::{OpenFrame, Place};
+use crate::frame::{FrameStage, OpenFrame};
 use crate::front::front_of;
 use desk_codec::{ENTRY_HEAD_BYTES, FrameFault};
 use desk_types::limits::BODY_BYTES;
@@ -53,7 +53,7 @@ impl Model for FrameCutter {
     ghost view = { λ c. position c.frame (take c.filled c.room.items) };
 
     ghost invariant = { λ c. (length c.room.items ≡ ROOM_BYTES)
-        × Awaits c.frame.place (take c.filled c.room.items) × (c.filled < ROOM_BYTES) };
+        × Awaits c.frame.stage (take c.filled c.room.items) × (c.filled < ROOM_BYTES) };
 }
 
 /// Puts bytes into the room, from a place on.
@@ -93,9 +93,9 @@ fn cut<'a>(
     bytes: &'a [u8],
     packets: &mut Vec<Packet>,
 ) -> Result<&'a [u8], WantOfMemory>
-    ensures awaits { IfOk result (λ rest. Awaits frame.new.place rest.now) }
+    ensures awaits { IfOk result (λ rest. Awaits frame.new.stage rest.now) }
     ensures room { IfOk result (λ rest. length rest.now < ROOM_BYTES) }
-    ensures stands { OnOk result (Stands frame.new.place frame.new.entries) }
+    ensures stands { OnOk result (Stands frame.new.stage frame.new.entries) }
     ensures ok { IfOk result (λ rest.
         HasCut bytes.now frame.old packets.old.items rest.now frame.new packets.new.items) }
     ensures err { OnErr result (StillPreserved frame.old packets.old.items frame.new packets.new.items) }
@@ -118,9 +118,9 @@ fn cut_rest(
 ) -> Result<usize, WantOfMemory>
     requires { length room.old ≡ ROOM_BYTES }
     ensures room { length room.new ≡ ROOM_BYTES }
-    ensures awaits { IfOk result (λ left. Awaits frame.new.place (take left room.new)) }
+    ensures awaits { IfOk result (λ left. Awaits frame.new.stage (take left room.new)) }
     ensures less { IfOk result (λ left. left < ROOM_BYTES) }
-    ensures stands { OnOk result (Stands frame.new.place frame.new.entries) }
+    ensures stands { OnOk result (Stands frame.new.stage frame.new.entries) }
     ensures ok { IfOk result (λ left.
         HasCut bytes.now frame.old packets.old.items (take left room.new) frame.new packets.new.items) }
     ensures err { OnErr result (StillPreserved frame.old packets.old.items frame.new packets.new.items) }
@@ -141,11 +141,11 @@ fn cut_piece(
 ) -> Result<usize, WantOfMemory>
     requires room { length room.old ≡ ROOM_BYTES }
     requires filled { filled < ROOM_BYTES }
-    requires awaits { Awaits frame.old.place (take filled room.old) }
+    requires awaits { Awaits frame.old.stage (take filled room.old) }
     ensures room { length room.new ≡ ROOM_BYTES }
-    ensures awaits { IfOk result (λ left. Awaits frame.new.place (take left room.new)) }
+    ensures awaits { IfOk result (λ left. Awaits frame.new.stage (take left room.new)) }
     ensures less { IfOk result (λ left. left < ROOM_BYTES) }
-    ensures stands { OnOk result (Stands frame.new.place frame.new.entries) }
+    ensures stands { OnOk result (Stands frame.new.stage frame.new.entries) }
     ensures ok { IfOk result (λ left.
         HasCut (take filled room.old ++ piece.now) frame.old packets.old.items (take left room.new)
         frame.new packets.new.items) }
@@ -171,12 +171,12 @@ fn cut_piece(
     }
 }
 
-/// Goes back to a place with so many entries, of which a packet that was whole since took some.
-fn undo(frame: &mut OpenFrame, place: Place, count: usize, packets: Vec<Packet>)
+/// Goes back to a stage with so many entries, of which a packet that was whole since took some.
+fn undo(frame: &mut OpenFrame, stage: FrameStage, count: usize, packets: Vec<Packet>)
     requires count { count ≤ length (front_entries packets.items frame.old.entries) }
-    requires stands { Stands place (take count (front_entries packets.items frame.old.entries)) }
+    requires stands { Stands stage (take count (front_entries packets.items frame.old.entries)) }
     ensures { frame.new ≡ record {
-      place = place;
+      stage = stage;
       entries = take count (front_entries packets.items frame.old.entries);
     } }
 {
@@ -185,9 +185,9 @@ fn undo(frame: &mut OpenFrame, place: Place, count: usize, packets: Vec<Packet>)
     match packets.pop() {
         Some(first) => {
             frame.take_back(first);
-            frame.go_back(place, count);
+            frame.go_back(stage, count);
         }
-        None => frame.go_back(place, count),
+        None => frame.go_back(stage, count),
     }
 }
 
@@ -208,9 +208,9 @@ impl FrameCutter {
     pub(crate) fn end(&self) -> Result<Option<Vec<Packet>>, Refusal>
         ensures { listed (λ v. v.items) result ≡ end_answer self.now }
     {
-        match self.frame.place() {
-            Place::Stopped => Err(Refusal::FrameFault),
-            Place::Length => {
+        match self.frame.stage() {
+            FrameStage::Stopped => Err(Refusal::FrameFault),
+            FrameStage::Length => {
                 if self.filled == 0 {
                     Ok(None)
                 } else {
@@ -227,7 +227,7 @@ impl FrameCutter {
         ensures ok { IfOk result (λ packets. Came self.old piece.now packets.items self.new) }
         ensures err { OnErr result (self.new ≡ self.old) }
     {
-        let place = self.frame.place();
+        let stage = self.frame.stage();
         let count = self.frame.count();
         let mut packets = Vec::new(self.alloc);
         match cut_piece(
@@ -242,7 +242,7 @@ impl FrameCutter {
                 Ok(packets)
             }
             Err(want) => {
-                undo(&mut self.frame, place, count, packets);
+                undo(&mut self.frame, stage, count, packets);
                 Err(want)
             }
         }
@@ -252,8 +252,8 @@ impl FrameCutter {
     fn is_stopped(&self) -> bool
         ensures { IsTrue result ↔ (self.now ≡ Stopped) }
     {
-        match self.frame.place() {
-            Place::Stopped => true,
+        match self.frame.stage() {
+            FrameStage::Stopped => true,
             _ => false,
         }
     }

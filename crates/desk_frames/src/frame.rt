@@ -1,15 +1,15 @@
 //! The frame that stands open.
 
 ghost use Rattle.std.specs.Prelude.{◌≡◌, ◌≤◌, ◌<◌, [], length, take, IfOk, OnErr};
-ghost use Rattle.desk_frames.specs.declared.frame.Place.TheVariants as places;
+ghost use Rattle.desk_frames.specs.declared.frame.FrameStage.TheVariants as stages;
 ghost use Rattle.desk_frames.specs.Frame.{
   Stands,
   IsOpen,
   Stepped,
   AfterPart,
   IsAwaited,
-  place_after_length,
-  place_after_part,
+  stage_after_length,
+  stage_after_part,
 };
 ghost use Rattle.desk_frames.specs.Stream.{announced_length};
 ghost use Rattle.desk_frames.specs.Whole.{log_in};
@@ -24,7 +24,7 @@ use std::mem;
 
 /// Where a frame stands.
 #[derive(Clone, Copy)]
-pub(crate) enum Place {
+pub(crate) enum FrameStage {
     /// Its length comes next.
     Length,
     /// A packet of so many bytes begins.
@@ -50,7 +50,7 @@ pub(crate) enum Place {
 /// The frame that stands open: where it stands, and the entries that came.
 pub(crate) struct OpenFrame {
     alloc: Global,
-    place: Place,
+    stage: FrameStage,
     entries: Vec<Entry>,
 }
 
@@ -59,7 +59,7 @@ impl Drop for OpenFrame {
     fn drop(self) {
         let OpenFrame {
             alloc: _,
-            place: _,
+            stage: _,
             entries: _,
         } = self;
     }
@@ -70,9 +70,9 @@ impl Model for OpenFrame {
 
     ghost Value = { FrameState };
 
-    ghost view = { λ f. record { place = f.place; entries = f.entries.items } };
+    ghost view = { λ f. record { stage = f.stage; entries = f.entries.items } };
 
-    ghost invariant = { λ f. Stands f.place f.entries.items };
+    ghost invariant = { λ f. Stands f.stage f.entries.items };
 }
 
 /// The length that a frame's first four bytes tell.
@@ -83,14 +83,14 @@ fn length_announced(bytes: &[u8]) -> usize
     u32::from_be_bytes([bytes[0], bytes[1], bytes[2], bytes[3]]) as usize
 }
 
-/// The place after a frame's length.
-fn place_after_length(announced: usize) -> Place
-    ensures { result ≡ place_after_length announced }
+/// The stage after a frame's length.
+fn stage_after_length(announced: usize) -> FrameStage
+    ensures { result ≡ stage_after_length announced }
 {
     if HEAD_BYTES <= announced && announced <= FRAME_BYTES {
-        Place::Start { announced }
+        FrameStage::Start { announced }
     } else {
-        Place::Stopped
+        FrameStage::Stopped
     }
 }
 
@@ -102,30 +102,30 @@ fn go_on(
     start: PacketStart,
     more: u32,
     entries: &mut Vec<Entry>,
-) -> (Place, Option<Packet>)
+) -> (FrameStage, Option<Packet>)
     requires { IsOpen announced left start entries.old.items more }
     ensures after { AfterPart announced start entries.old.items result.1 result.0 entries.new.items }
     // Bytes that are left over are reported with the frame's last byte.
-    ensures place { result.0 ≡ place_after_part announced left start more result.1 }
+    ensures stage { result.0 ≡ stage_after_part announced left start more result.1 }
 {
     if more > 0 {
         if left == 0 {
-            return (Place::Stopped, None);
+            return (FrameStage::Stopped, None);
         }
-        let place = Place::Entries {
+        let stage = FrameStage::Entries {
             announced,
             left,
             start,
             more,
         };
-        return (place, None);
+        return (stage, None);
     }
     if left > 0 {
-        return (Place::Doomed { left }, None);
+        return (FrameStage::Doomed { left }, None);
     }
     match packet_of(start, mem::replace(entries, Vec::new(alloc))) {
-        Some(packet) => (Place::Length, Some(packet)),
-        None => (Place::Stopped, None),
+        Some(packet) => (FrameStage::Length, Some(packet)),
+        None => (FrameStage::Stopped, None),
     }
 }
 
@@ -143,27 +143,27 @@ fn log_in(alloc: Global, packet: Packet) -> Vec<Entry>
 impl OpenFrame {
     /// A frame of which no byte has come. It allocates nothing.
     pub(crate) fn new(alloc: Global) -> OpenFrame
-        ensures { result ≡ record { place = places.Length; entries = [] } }
+        ensures { result ≡ record { stage = stages.Length; entries = [] } }
     {
         OpenFrame {
             alloc,
-            place: Place::Length,
+            stage: FrameStage::Length,
             entries: Vec::new(alloc),
         }
     }
 
-    pub(crate) fn place(&self) -> Place
-        ensures value { result ≡ self.now.place }
+    pub(crate) fn stage(&self) -> FrameStage
+        ensures value { result ≡ self.now.stage }
         ensures stands { Stands result self.now.entries }
     {
-        self.place
+        self.stage
     }
 
-    /// What its place and its entries keep.
+    /// What its stage and its entries keep.
     pub(crate) fn stands(&self)
-        ensures { Stands self.now.place self.now.entries }
+        ensures { Stands self.now.stage self.now.entries }
     {
-        let _place = self.place;
+        let _stage = self.stage;
     }
 
     pub(crate) fn count(&self) -> usize
@@ -174,13 +174,13 @@ impl OpenFrame {
 
     /// Takes what a packet begins with, where it is there.
     fn take_start(&mut self, announced: usize, bytes: &[u8]) -> Option<(usize, Option<Packet>)>
-        requires place { self.old.place ≡ places.Start announced }
+        requires stage { self.old.stage ≡ stages.Start announced }
         requires some { 0 < length bytes.now }
         ensures { Stepped self.old bytes.now result self.new }
     {
         match front_start(front_of(bytes, announced)) {
             Ok((start, count)) => {
-                let (place, packet) = go_on(
+                let (stage, packet) = go_on(
                     self.alloc,
                     announced,
                     announced - count,
@@ -188,18 +188,18 @@ impl OpenFrame {
                     start.count,
                     &mut self.entries,
                 );
-                self.place = place;
+                self.stage = stage;
                 Some((count, packet))
             }
             Err(Lack::NoSpelling) => {
-                self.place = Place::Stopped;
+                self.stage = FrameStage::Stopped;
                 Some((bytes.len(), None))
             }
             Err(Lack::Needs) => {
                 if bytes.len() < announced {
                     return None;
                 }
-                self.place = Place::Stopped;
+                self.stage = FrameStage::Stopped;
                 Some((announced, None))
             }
         }
@@ -214,7 +214,7 @@ impl OpenFrame {
         more: u32,
         bytes: &[u8],
     ) -> Result<Option<(usize, Option<Packet>)>, WantOfMemory>
-        requires place { self.old.place ≡ places.Entries announced left start more }
+        requires stage { self.old.stage ≡ stages.Entries announced left start more }
         requires some { 0 < length bytes.now }
         ensures ok { IfOk result (λ step. Stepped self.old bytes.now step self.new) }
         ensures err { OnErr result (self.new ≡ self.old) }
@@ -223,7 +223,7 @@ impl OpenFrame {
         match front_entry(self.alloc, start.head.version, frame)? {
             Ok((entry, count)) => {
                 self.entries.push(entry)?;
-                let (place, packet) = go_on(
+                let (stage, packet) = go_on(
                     self.alloc,
                     announced,
                     left - count,
@@ -231,18 +231,18 @@ impl OpenFrame {
                     more - 1,
                     &mut self.entries,
                 );
-                self.place = place;
+                self.stage = stage;
                 Ok(Some((count, packet)))
             }
             Err(Lack::NoSpelling) => {
-                self.place = Place::Stopped;
+                self.stage = FrameStage::Stopped;
                 Ok(Some((bytes.len(), None)))
             }
             Err(Lack::Needs) => {
                 if bytes.len() < left {
                     return Ok(None);
                 }
-                self.place = Place::Stopped;
+                self.stage = FrameStage::Stopped;
                 Ok(Some((left, None)))
             }
         }
@@ -250,35 +250,35 @@ impl OpenFrame {
 
     /// Takes the length of a frame, where it is there.
     fn take_length(&mut self, bytes: &[u8]) -> Option<(usize, Option<Packet>)>
-        requires place { self.old.place ≡ places.Length }
+        requires stage { self.old.stage ≡ stages.Length }
         ensures { Stepped self.old bytes.now result self.new }
     {
         if bytes.len() < 4 {
             return None;
         }
-        self.place = place_after_length(length_announced(bytes));
+        self.stage = stage_after_length(length_announced(bytes));
         Some((4, None))
     }
 
     /// Takes bytes of a frame that no packet begins.
     fn pass(&mut self, left: usize, bytes: &[u8]) -> Option<(usize, Option<Packet>)>
-        requires place { self.old.place ≡ places.Doomed left }
+        requires stage { self.old.stage ≡ stages.Doomed left }
         requires some { 0 < length bytes.now }
         ensures { Stepped self.old bytes.now result self.new }
     {
-        self.place = if bytes.len() < left {
-            Place::Doomed {
+        self.stage = if bytes.len() < left {
+            FrameStage::Doomed {
                 left: left - bytes.len(),
             }
         } else {
-            Place::Stopped
+            FrameStage::Stopped
         };
         Some((bytes.len(), None))
     }
 
     /// Takes bytes that are read no more.
     fn pass_all(&mut self, bytes: &[u8]) -> Option<(usize, Option<Packet>)>
-        requires place { self.old.place ≡ places.Stopped }
+        requires stage { self.old.stage ≡ stages.Stopped }
         requires some { 0 < length bytes.now }
         ensures { Stepped self.old bytes.now result self.new }
     {
@@ -294,23 +294,23 @@ impl OpenFrame {
         ensures ok { IfOk result (λ step. Stepped self.old bytes.now step self.new) }
         ensures err { OnErr result (self.new ≡ self.old) }
         // Memory is asked for an entry alone.
-        ensures awaited { OnErr result (IsAwaited self.old.place) }
+        ensures awaited { OnErr result (IsAwaited self.old.stage) }
     {
-        let place = self.place();
+        let stage = self.stage();
         if bytes.is_empty() {
             return Ok(None);
         }
-        match place {
-            Place::Length => Ok(self.take_length(bytes)),
-            Place::Start { announced } => Ok(self.take_start(announced, bytes)),
-            Place::Entries {
+        match stage {
+            FrameStage::Length => Ok(self.take_length(bytes)),
+            FrameStage::Start { announced } => Ok(self.take_start(announced, bytes)),
+            FrameStage::Entries {
                 announced,
                 left,
                 start,
                 more,
             } => self.take_entry(announced, left, start, more, bytes),
-            Place::Doomed { left } => Ok(self.pass(left, bytes)),
-            Place::Stopped => Ok(self.pass_all(bytes)),
+            FrameStage::Doomed { left } => Ok(self.pass(left, bytes)),
+            FrameStage::Stopped => Ok(self.pass_all(bytes)),
         }
     }
 
@@ -318,17 +318,17 @@ impl OpenFrame {
     pub(crate) fn take_back(&mut self, packet: Packet)
         ensures { self.new.entries ≡ log_in packet }
     {
-        self.place = Place::Stopped;
+        self.stage = FrameStage::Stopped;
         drop(mem::replace(&mut self.entries, log_in(self.alloc, packet)));
     }
 
-    /// Goes back to a place with so many entries.
-    pub(crate) fn go_back(&mut self, place: Place, count: usize)
+    /// Goes back to a stage with so many entries.
+    pub(crate) fn go_back(&mut self, stage: FrameStage, count: usize)
         requires count { count ≤ length self.old.entries }
-        requires stands { Stands place (take count self.old.entries) }
-        ensures { self.new ≡ record { place = place; entries = take count self.old.entries } }
+        requires stands { Stands stage (take count self.old.entries) }
+        ensures { self.new ≡ record { stage = stage; entries = take count self.old.entries } }
     {
         self.entries.truncate(count);
-        self.place = place;
+        self.stage = stage;
     }
 }

@@ -19,7 +19,7 @@ mod load;
 mod old_file;
 mod rows;
 mod saved_state;
-mod shown;
+mod schema;
 mod state_store;
 mod steps;
 mod transactions;
@@ -27,7 +27,7 @@ mod transactions;
 pub use desk_naming::{NamedOwner, named_owner};
 pub use desk_types::Owner;
 pub use saved_state::{OpenRefused, SavedState};
-pub use shown::referring_table;
+pub use schema::referring_table;
 
 /// What is true of every database. It does nothing: its clauses are the laws.
 pub fn laws()

@@ -18,7 +18,7 @@ use crate::changes::{Missing, RowChange};
 use crate::last_saved::{LastSaved, all_clients, entries_after};
 use crate::load::load_state;
 use crate::old_file::load_old;
-use crate::shown::{can_grow, is_desk, is_old_desk, refusal_of};
+use crate::schema::{can_grow, is_desk, is_old_desk, refusal_of};
 use crate::steps::RowStep;
 use crate::transactions::{Numbers, in_transaction};
 use desk_log::Saved;

@@ -19,7 +19,7 @@ loop-count-preserved c =
 
 pub returns-clause-room : goal.returns-clause-room
 returns-clause-room c =
-    awaits_room c.loop-count.frame.place c.loop-count.rest.now (rw c.in_default.is at c.in_ok-count.ensures.ok).2
+    awaits_room c.loop-count.frame.stage c.loop-count.rest.now (rw c.in_default.is at c.in_ok-count.ensures.ok).2
 
 pub returns-clause-ok : goal.returns-clause-ok
 returns-clause-ok c =

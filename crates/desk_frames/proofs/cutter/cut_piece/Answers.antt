@@ -50,7 +50,7 @@ returns-in-None-clause-less c =
     let same = length-take-le filled room (omega (arith, c.requires.room, c.requires.filled)) in
     let whole = room_joined waited front (drop there room) new there c.put.ensures (ap (λ k. k + length front) same) in
     let h = rw c.in-None.is at c.in_ok-count.ensures.ok in
-    let less = awaits_room f.place (take there new) h.2 in
+    let less = awaits_room f.stage (take there new) h.2 in
     omega (arith, less, ap length whole, length-append waited front, same)
 
 pub returns-in-None-clause-ok : goal.returns-in-None-clause-ok
@@ -67,7 +67,7 @@ returns-in-None-clause-ok c =
     let same = length-take-le filled room (omega (arith, c.requires.room, c.requires.filled)) in
     let whole = room_joined waited front (drop there room) new there c.put.ensures (ap (λ k. k + length front) same) in
     let h = rw c.in-None.is at c.in_ok-count.ensures.ok in
-    let less = awaits_room f.place (take there new) h.2 in
+    let less = awaits_room f.stage (take there new) h.2 in
     let front_is : front ≡ take (length room - filled) piece = c.front_of-front.ensures in
     let few : length (take (length room - filled) piece) < length room - filled =
     omega (

@@ -14,7 +14,7 @@ undo-requires-clause-count c =
     let preserved : StillPreserved f [] g ms =
     subst (λ (ns : List Message). StillPreserved f ns g ms) c.new-packets.ensures.items c.in-Err.ensures.err in
     rw c.count-count.ensures
-    (preserved_count f g ms (rw (sym c.place-place.ensures.value) c.place-place.ensures.stands) preserved).0
+    (preserved_count f g ms (rw (sym c.stage-stage.ensures.value) c.stage-stage.ensures.stands) preserved).0
 
 pub undo-requires-clause-stands : goal.undo-requires-clause-stands
 undo-requires-clause-stands c =
@@ -24,8 +24,8 @@ undo-requires-clause-stands c =
     let preserved : StillPreserved f [] g ms =
     subst (λ (ns : List Message). StillPreserved f ns g ms) c.new-packets.ensures.items c.in-Err.ensures.err in
     rw c.count-count.ensures
-    (rw (preserved_count f g ms (rw (sym c.place-place.ensures.value) c.place-place.ensures.stands) preserved).1
-    c.place-place.ensures.stands)
+    (rw (preserved_count f g ms (rw (sym c.stage-stage.ensures.value) c.stage-stage.ensures.stands) preserved).1
+    c.stage-stage.ensures.stands)
 
 pub returns-in-Ok-clause-ok : goal.returns-in-Ok-clause-ok
 returns-in-Ok-clause-ok c =
@@ -39,7 +39,7 @@ returns-in-Ok-clause-ok c =
     subst (λ (room : List ℕ). Came c.args.self.now c.args.piece.now ms (position g (take filled room))) (sym written)
     (subst (λ (old : Standing). Came old c.args.piece.now ms (position g (take filled now))) c.self.view_is
     (came_taken f g c.self.inside.room.items c.as_mut_slice.result.now now c.args.piece.now c.self.inside.filled filled
-    ms c.new-packets.result.items (rw (sym c.place-place.ensures.value) c.place-place.ensures.stands)
+    ms c.new-packets.result.items (rw (sym c.stage-stage.ensures.value) c.stage-stage.ensures.stands)
     c.in-Ok.ensures.stands c.self.invariant.1 c.in-Ok.ensures.awaits
     c.as_mut_slice.ensures.value c.new-packets.ensures.items c.in-Ok.ensures.ok))
 
@@ -54,7 +54,7 @@ returns-in-Err-clause-err c =
     let written = with_items_is c.self.inside.room c.cut_piece.new.room
     (c.cut_piece.ensures.room ∙ sym c.self.invariant.0 ∙ sym c.self.inside.room.ok.0) in
     subst (λ (room : List ℕ). position c.undo.new.frame (take filled room) ≡ c.args.self.now) (sym written)
-    (stands_same f g c.undo.new.frame ms c.place-place.result c.count-count.result (take filled c.cut_piece.new.room)
-    (take filled c.self.inside.room.items) (rw (sym c.place-place.ensures.value) c.place-place.ensures.stands) preserved
-    c.place-place.ensures.value c.count-count.ensures c.undo.ensures
+    (stands_same f g c.undo.new.frame ms c.stage-stage.result c.count-count.result (take filled c.cut_piece.new.room)
+    (take filled c.self.inside.room.items) (rw (sym c.stage-stage.ensures.value) c.stage-stage.ensures.stands) preserved
+    c.stage-stage.ensures.value c.count-count.ensures c.undo.ensures
     (c.in-Err.ensures.unchanged ∙ ap (take filled) c.as_mut_slice.ensures.value) ∙ c.self.view_is)

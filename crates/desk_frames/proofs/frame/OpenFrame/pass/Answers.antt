@@ -1,5 +1,5 @@
 use Rattle.std.proofs.Common.{sym, subst, arith, length, None}
-use Rattle.desk_frames.specs.declared.frame.Place.{Place}
+use Rattle.desk_frames.specs.declared.frame.FrameStage.{FrameStage}
 use Rattle.desk_frames.specs.Frame.{Taken}
 use Rattle.desk_frames.proofs.Steps.{all_covers, passes_on, passes_end}
 use Rattle.desk_frames.proofs.frame.OpenFrame.pass.Goals as goal
@@ -12,21 +12,23 @@ returns c =
     let now = c.self.inside.entries.items in
     elim c.if-bytes-left.branch [
       | then-bytes-left w ↦
-          subst (λ (p : Place). Taken f bytes (length bytes) None (record { place = p; entries = now })) (sym w.self-is)
+          subst (λ (p : FrameStage). Taken f bytes (length bytes) None (record { stage = p; entries = now }))
+          (sym w.self-is)
           (record {
             within = omega arith;
             some = c.requires.some;
-            moved = passes_on c.args.left f c.requires.place bytes now (omega arith);
+            moved = passes_on c.args.left f c.requires.stage bytes now (omega arith);
             keeps = λ es k a. absurd a;
-            covers = all_covers f.place bytes;
+            covers = all_covers f.stage bytes;
           })
       | else-bytes-left w ↦
-          subst (λ (p : Place). Taken f bytes (length bytes) None (record { place = p; entries = now })) (sym w.self-is)
+          subst (λ (p : FrameStage). Taken f bytes (length bytes) None (record { stage = p; entries = now }))
+          (sym w.self-is)
           (record {
             within = omega arith;
             some = c.requires.some;
-            moved = passes_end c.args.left f c.requires.place bytes now;
+            moved = passes_end c.args.left f c.requires.stage bytes now;
             keeps = λ es k a. absurd a;
-            covers = all_covers f.place bytes;
+            covers = all_covers f.stage bytes;
           })
     ]

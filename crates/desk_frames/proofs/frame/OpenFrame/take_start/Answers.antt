@@ -9,24 +9,24 @@ use Rattle.desk_frames.proofs.frame.OpenFrame.take_start.Goals as goal
 pub returns-in-Ok : goal.returns-in-Ok
 returns-in-Ok c =
     let f = c.args.self.now in
-    let g : FrameState = record { place = c.go_on-place.result.0; entries = c.go_on-place.new.entries.items } in
+    let g : FrameState = record { stage = c.go_on-stage.result.0; entries = c.go_on-stage.new.entries.items } in
     let bytes = c.args.bytes.now in
     let announced = c.args.announced in
     let s = c.in-Ok.start in
     let n = c.in-Ok.count in
     let stands = stands_seen f _ c.self.view_is c.self.invariant in
     let h = rw c.front_of.ensures at c.in-Ok.ensures in
-    let beyond : AfterPart announced s f.entries c.go_on-place.result.1 g.place g.entries =
-    subst (λ (old : FrameState). AfterPart announced s old.entries c.go_on-place.result.1 g.place g.entries)
+    let beyond : AfterPart announced s f.entries c.go_on-stage.result.1 g.stage g.entries =
+    subst (λ (old : FrameState). AfterPart announced s old.entries c.go_on-stage.result.1 g.stage g.entries)
     c.self.view_is
-    c.go_on-place.ensures.after in
+    c.go_on-stage.ensures.after in
     record {
       within = front_within announced n bytes h.0;
       some = some_taken n (take announced bytes) (start_spelling s) h.0 h.1 (start_some s);
-      moved = start_moves announced f c.requires.place stands g s n bytes c.go_on-place.result.1 h.0 h.1 beyond;
-      keeps = start_keeps f g c.go_on-place.result.1 (subst IsAwaited (sym c.requires.place) tt)
-          (starts announced f c.requires.place stands).0 beyond.keeps;
-      covers = start_covers announced f c.requires.place stands s n bytes h.0 h.1 h.3;
+      moved = start_moves announced f c.requires.stage stands g s n bytes c.go_on-stage.result.1 h.0 h.1 beyond;
+      keeps = start_keeps f g c.go_on-stage.result.1 (subst IsAwaited (sym c.requires.stage) tt)
+          (starts announced f c.requires.stage stands).0 beyond.keeps;
+      covers = start_covers announced f c.requires.stage stands s n bytes h.0 h.1 h.3;
     }
 
 pub returns-in-Err-NoSpelling : goal.returns-in-Err-NoSpelling
@@ -36,22 +36,22 @@ returns-in-Err-NoSpelling c =
     record {
       within = omega arith;
       some = c.requires.some;
-      moved = start_none c.args.announced f c.requires.place stands c.args.bytes.now f.entries
+      moved = start_none c.args.announced f c.requires.stage stands c.args.bytes.now f.entries
           (rw (c.front_of.ensures, c.in-Err-NoSpelling.is, c.in-Err-NoSpelling.field-0-is) at c.front_start.ensures);
       keeps = λ es k a. absurd a;
-      covers = all_covers f.place c.args.bytes.now;
+      covers = all_covers f.stage c.args.bytes.now;
     }
 
 pub returns-else-bytes-announced : goal.returns-else-bytes-announced
 returns-else-bytes-announced c =
     let f = c.args.self.now in
     let stands = stands_seen f _ c.self.view_is c.self.invariant in
-    let range = (starts c.args.announced f c.requires.place stands).1 in
+    let range = (starts c.args.announced f c.requires.stage stands).1 in
     record {
       within = omega arith;
       some = omega (arith, range.0);
-      moved = start_short c.args.announced f c.requires.place stands c.args.bytes.now f.entries (omega arith)
+      moved = start_short c.args.announced f c.requires.stage stands c.args.bytes.now f.entries (omega arith)
           (rw (c.front_of.ensures, c.in-Err-Needs.is, c.in-Err-Needs.field-0-is) at c.front_start.ensures).0;
       keeps = λ es k a. absurd a;
-      covers = announced_covers c.args.announced f c.requires.place stands c.args.bytes.now;
+      covers = announced_covers c.args.announced f c.requires.stage stands c.args.bytes.now;
     }

@@ -2,7 +2,7 @@ use Rattle.std.proofs.Common.{◌≡◌, codes, Some, sym, ap, ◌∙◌}
 use Rattle.std.specs.Option.{option_copied}
 use Rattle.desk_naming.specs.TableInSchema.{table_of}
 use Rattle.desk_saved.proofs.OldTables.{old_stand, old_of, old_node_there, old_entry_there}
-use Rattle.desk_saved.proofs.shown.has_old_tables.Goals as goal
+use Rattle.desk_saved.proofs.schema.has_old_tables.Goals as goal
 
 pub returns : goal.returns
 returns c =

@@ -1,6 +1,6 @@
 use Rattle.std.proofs.Common.{inl, inr, refl}
 use Rattle.desk_saved.proofs.DeskTables.{desk_of}
-use Rattle.desk_saved.proofs.shown.refusal_of.Goals as goal
+use Rattle.desk_saved.proofs.schema.refusal_of.Goals as goal
 
 pub returns-then-has_tables : goal.returns-then-has_tables
 returns-then-has_tables g c =

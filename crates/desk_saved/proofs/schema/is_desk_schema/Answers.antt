@@ -1,6 +1,6 @@
 use Rattle.std.proofs.Common.{◌≡◌, false}
 use Rattle.desk_saved.proofs.DeskTables.{desk_of, desk_tables, unnamed_of}
-use Rattle.desk_saved.proofs.shown.is_desk_schema.Goals as goal
+use Rattle.desk_saved.proofs.schema.is_desk_schema.Goals as goal
 
 pub returns-then-has_tables : goal.returns-then-has_tables
 returns-then-has_tables c = (

@@ -2,7 +2,7 @@ use Rattle.std.proofs.Common.{◌≡◌, codes, Some, sym, ap, ◌∙◌}
 use Rattle.std.specs.Option.{option_copied}
 use Rattle.desk_naming.specs.TableInSchema.{table_of}
 use Rattle.desk_saved.proofs.DeskTables.{tables_stand, tables_of, node_there, entry_there, client_there}
-use Rattle.desk_saved.proofs.shown.has_tables.Goals as goal
+use Rattle.desk_saved.proofs.schema.has_tables.Goals as goal
 
 pub returns : goal.returns
 returns c =
