@@ -2,7 +2,7 @@
 use Rattle.std.proofs.Common.{◌≡◌, ◌≢◌, ◌⊎◌, ℕ, true, false, if◌then◌else◌, List, [], ◌∷◌, ◌++◌, sym, inl, inr}
 use Rattle.std.proofs.Common.{subst, eqb}
 use Rattle.std.proofs.lemmas.Bool.{cases_eq, eq-eqb, ne_eqb}
-use Rattle.desk_types.specs.declared.packet.Message.{Message}
+use Rattle.desk_types.specs.declared.epoch_packet.EpochPacket.{EpochPacket}
 use Rattle.desk_mailbox.specs.declared.item.Item.{Item}
 use Rattle.desk_threads.specs.OwnedValue.{OwnedValue, DoesItems}
 use Rattle.desk_threads.proofs.ItemsInOrder.{keeps_none, keeps_then}
@@ -11,7 +11,7 @@ use Rattle.desk_group.specs.Turns.{items_of, TurnsAreRun}
 
 -- what a keeper did of a list, with some packets
 abbrev Did : OwnedValue → List Item → OwnedValue → Type 0
-Did old list new = (packets : List (ℕ × Message)) × DoesItems old list packets new
+Did old list new = (packets : List (ℕ × EpochPacket)) × DoesItems old list packets new
 
 did_then : (a b c : OwnedValue) (xs ys : List Item) → Did a xs b → Did b ys c → Did a (xs ++ ys) c
 did_then a b c xs ys one other =

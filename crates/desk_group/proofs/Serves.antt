@@ -1,7 +1,8 @@
 -- The definition of a group's run at work, so that what is said of all runs is not said of nothing.
 use Rattle.std.proofs.Common.{◌≡◌, ◌<◌, ℕ, true, false, if◌then◌else◌, List, [], ◌∷◌, ◌++◌, refl, eqb, arith}
 use Rattle.std.proofs.lemmas.Bool.{eq-eqb, ne_eqb}
-use Rattle.desk_types.specs.declared.packet.Message.{Message}
+use Rattle.desk_types.specs.declared.epoch_packet.EpochPacket.{EpochPacket}
+use Rattle.desk_types.specs.declared.epoch_packet.Purpose.TheVariants.{Step}
 use Rattle.desk_types.specs.declared.packet.Message.TheVariants.{Prepare, PrepareOk}
 use Rattle.desk_mailbox.specs.declared.item.Item.{Item}
 use Rattle.desk_mailbox.specs.declared.item.Item.TheVariants as items
@@ -10,14 +11,15 @@ use Rattle.desk_normal.specs.Rules.{on_request, admitted_request, append_request
 use Rattle.desk_normal.specs.Rules.{on_prepare_ok, commit_acknowledged}
 use Rattle.desk_node.specs.HeldStep.{held_step}
 use Rattle.desk_node.specs.Rules.{on_packet_within, on_packet}
+use Rattle.desk_threads.specs.EpochPackets.{packet_under}
 use Rattle.desk_threads.specs.OwnedValue.{OwnedValue}
 use Rattle.desk_threads.proofs.ItemsInOrder.{keeps_one}
 use Rattle.desk_group.specs.Group.{Keepers, Takes, WasHanded, Happens, started_group}
 use Rattle.desk_group.specs.Serves.{EachItemIsTaken, Serves}
-use Rattle.desk_group.proofs.Split.{Done, item_done}
+use Rattle.desk_group.proofs.Split.{Done, item_done, packet_done}
 
 -- the group after node i took an item
-abbrev with_keeper : Keepers → ℕ → OwnedValue → List (ℕ × Message) → Keepers
+abbrev with_keeper : Keepers → ℕ → OwnedValue → List (ℕ × EpochPacket) → Keepers
 with_keeper g i k packets =
     record { keepers = λ j. if eqb j i then k else g.keepers j; handed = g.handed ++ packets }
 
@@ -44,13 +46,13 @@ pub each_item_is_taken : EachItemIsTaken
 each_item_is_taken domain n i g item small handed = (after g i item, takes domain n i g item small handed)
 
 pub serves : Serves
-unfolding item_done held_step on_packet on_packet_within on_request admitted_request append_request retry_request
-    on_prepare on_prepare_ok commit_acknowledged to_others
+unfolding item_done packet_done held_step on_packet on_packet_within on_request admitted_request append_request
+    retry_request on_prepare on_prepare_ok commit_acknowledged to_others
 serves domain e =
     let first : Keepers = started_group domain 3 in
     let ask : Item = items.Request 0 e in
-    let prepare : Item = items.Packet (Prepare 0 0 1 0 e) in
-    let ok : Item = items.Packet (PrepareOk 1 0 1) in
+    let prepare : Item = items.Packet (packet_under 0 Step (Prepare 0 0 1 0 e)) in
+    let ok : Item = items.Packet (packet_under 0 Step (PrepareOk 1 0 1)) in
     let one : Keepers = after first 0 ask in
     let two : Keepers = after one 1 prepare in
     let three : Keepers = after two 0 ok in (

@@ -3,6 +3,8 @@ use Rattle.std.specs.Prelude.{◌≡◌, ◌≢◌, ◌≤◌, ◌⊎◌, ℕ, L
 use Rattle.desk_types.specs.Group.{IsGroup}
 use Rattle.desk_types.specs.Identifier.{IsLowerDomain}
 use Rattle.desk_types.specs.declared.command.Entry.{Entry}
+use Rattle.desk_types.specs.declared.epoch_packet.EpochPacket.{EpochPacket}
+use Rattle.desk_types.specs.declared.epoch_packet.Purpose.TheVariants.{Step}
 use Rattle.desk_types.specs.declared.packet.Message.{Message}
 use Rattle.desk_types.specs.declared.reply.Reply.{Reply}
 use Rattle.desk_log.specs.Entries.{IsLogPrefix, IsRising}
@@ -16,10 +18,15 @@ use Rattle.desk_world.specs.Agreement.{IsReplyAt}
 use Rattle.desk_world.specs.World.{world, node_of_world}
 use Rattle.desk_group.specs.Group.{Keepers, Act, Runs, started_group, committed, MayPublish}
 
+-- What was handed out is a packet by the rules of the first epoch, and its message was sent to the node that gets it.
+abbrev pub IsSentStep : List (ℕ × Message) → ℕ × EpochPacket → Type 0
+IsSentStep sent handed =
+    (handed.1.epoch ≡ 0) × (handed.1.purpose ≡ Step) × Contains sent (handed.0, handed.1.packet)
+
 -- Each node has saved what the world's node saves after these events, and what was handed out was sent in it.
 pub record IsOfWorld (domain : List ℕ) (n : ℕ) (g : Keepers) (events : List WorldEvent) : Type 0 where
   pub saved : (i : ℕ) → (g.keepers i).node.saved ≡ (node_of_world (world domain n events) i).saved
-  pub sent : (packet : ℕ × Message) → Contains g.handed packet → Contains (world domain n events).packets packet
+  pub sent : (handed : ℕ × EpochPacket) → Contains g.handed handed → IsSentStep (world domain n events).packets handed
 
 -- Whatever happens in a group, there are events of whose world it is; and later it is of the world after later events.
 abbrev pub TurnsMakeWorlds : Type 0

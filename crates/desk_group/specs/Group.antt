@@ -3,17 +3,17 @@ use Rattle.std.specs.Prelude.{◌≡◌, ◌≢◌, ◌<◌, ℕ, List, [], ◌�
 use Rattle.std.specs.List.{AllByRecursion}
 use mathlib.Core.List.{IsPrefix}
 use Rattle.desk_types.specs.declared.command.Entry.{Entry}
-use Rattle.desk_types.specs.declared.packet.Message.{Message}
+use Rattle.desk_types.specs.declared.epoch_packet.EpochPacket.{EpochPacket}
 use Rattle.desk_log.specs.SavedValue.{SavedValue, initial_saved, committed_entries}
 use Rattle.desk_mailbox.specs.declared.item.Item.{Item}
 use Rattle.desk_mailbox.specs.declared.item.Item.TheVariants as items
 use Rattle.desk_node.specs.NodeValue.{node_from}
 use Rattle.desk_threads.specs.OwnedValue.{OwnedValue, DoesItems}
 
--- the keeper of each node, and all packets that were ever handed out, each with its receiver
+-- the keeper of each node, and all packets that were ever handed out, each with its epoch and its receiver
 pub record Keepers : Type 0 where
   pub keepers : ℕ → OwnedValue
-  pub handed : List (ℕ × Message)
+  pub handed : List (ℕ × EpochPacket)
 
 -- What happens: a node's keeper takes a turn of items, which share a save; its process ends in a turn that was saved,
 -- when at most so many of the turn's packets were handed out, and is started again; or it ends at any other moment, and
@@ -33,9 +33,9 @@ abbrev pub started_group : List ℕ → ℕ → Keepers
 started_group domain n = record { keepers = λ i. started domain n i initial_saved; handed = [] }
 
 -- An item that is a packet was handed out before, for node i.
-abbrev pub WasHanded : List (ℕ × Message) → ℕ → Item → Type 0
+abbrev pub WasHanded : List (ℕ × EpochPacket) → ℕ → Item → Type 0
 WasHanded handed i (items.Request session entry) = Unit {0}
-WasHanded handed i (items.Packet packet) = Contains handed (i, packet)
+WasHanded handed i (items.Packet p) = Contains handed (i, p)
 WasHanded handed i items.Tick = Unit {0}
 WasHanded handed i items.Stop = Unit {0}
 
@@ -46,7 +46,7 @@ pub record KeeperBecomes (n i : ℕ) (old : Keepers) (keeper : OwnedValue) (new 
   pub there : (j : ℕ) → j ≢ i → new.keepers j ≡ old.keepers j
 
 -- A turn of node i, each packet of which was handed out before, leads to this keeper and gives these packets.
-pub record OneTurn (i : ℕ) (old : Keepers) (turn : List Item) (packets : List (ℕ × Message)) (new : OwnedValue) :
+pub record OneTurn (i : ℕ) (old : Keepers) (turn : List Item) (packets : List (ℕ × EpochPacket)) (new : OwnedValue) :
     Type 0 where
   pub handed : AllByRecursion (WasHanded old.handed i) turn
   pub does : DoesItems (old.keepers i) turn packets new
@@ -54,10 +54,10 @@ pub record OneTurn (i : ℕ) (old : Keepers) (turn : List Item) (packets : List 
 -- What happens leads from a group to another.
 abbrev pub Happens : List ℕ → ℕ → Keepers → Act → Keepers → Type 0
 Happens domain n old (Takes i turn) new =
-    (owned : OwnedValue) × (packets : List (ℕ × Message)) × OneTurn i old turn packets owned
+    (owned : OwnedValue) × (packets : List (ℕ × EpochPacket)) × OneTurn i old turn packets owned
     × KeeperBecomes n i old owned new × (new.handed ≡ old.handed ++ packets)
 Happens domain n old (Breaks i turn count) new =
-    (owned : OwnedValue) × (packets : List (ℕ × Message)) × OneTurn i old turn packets owned
+    (owned : OwnedValue) × (packets : List (ℕ × EpochPacket)) × OneTurn i old turn packets owned
     × KeeperBecomes n i old (started domain n i owned.node.saved) new
     × (new.handed ≡ old.handed ++ take count packets)
 Happens domain n old (Restarts i) new =

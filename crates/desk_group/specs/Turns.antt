@@ -1,5 +1,6 @@
 -- What `Keeper::handle` and `Keeper::run` promise, as turns.
 use Rattle.std.specs.Prelude.{◌≡◌, ◌≢◌, ◌==◌, ℕ, if◌then◌else◌, List, [], ◌∷◌, ◌++◌}
+use Rattle.desk_types.specs.declared.epoch_packet.EpochPacket.{EpochPacket}
 use Rattle.desk_types.specs.declared.packet.Message.{Message}
 use Rattle.desk_mailbox.specs.declared.item.Item.{Item}
 use Rattle.desk_node.specs.Heard.{Says}
@@ -13,20 +14,20 @@ IsSaid k = (received : List Message) × Says k.node.n k.node.saved.view received
 
 -- What `handle` promises of an item is a turn of it, whether it was done or refused.
 pub record HandledIsTurn : Type 0 where
-  pub done : (old new : OwnedValue) (item : Item) (packets : List (ℕ × Message)) → IsSameNode old.node new.node →
+  pub done : (old new : OwnedValue) (item : Item) (packets : List (ℕ × EpochPacket)) → IsSameNode old.node new.node →
       DoesItem old item packets new → DoesItems old (item ∷ []) packets new
   pub refused : (old : OwnedValue) (item : Item) → DoesItems old (item ∷ []) [] (with_one_refused old)
 
 -- Turns of one item each, one after the other, and their packets in order.
-abbrev pub OneByOne : OwnedValue → List Item → List (ℕ × Message) → OwnedValue → Type 0
+abbrev pub OneByOne : OwnedValue → List Item → List (ℕ × EpochPacket) → OwnedValue → Type 0
 OneByOne old [] packets new = DoesItems old [] packets new
 OneByOne old (item ∷ more) packets new =
-    (mid : OwnedValue) × (first : List (ℕ × Message)) × (rest : List (ℕ × Message))
+    (mid : OwnedValue) × (first : List (ℕ × EpochPacket)) × (rest : List (ℕ × EpochPacket))
     × DoesItems old (item ∷ []) first mid × OneByOne mid more rest new × (packets ≡ first ++ rest)
 
 -- What `run` promises of all that it took are such turns.
 abbrev pub RunIsTurns : Type 0
-RunIsTurns = (old new : OwnedValue) (list : List Item) (packets : List (ℕ × Message)) → IsSaid old →
+RunIsTurns = (old new : OwnedValue) (list : List Item) (packets : List (ℕ × EpochPacket)) → IsSaid old →
     DoesItems old list packets new → OneByOne old list packets new
 
 -- what node i took, in order
@@ -47,4 +48,4 @@ StaysUp i (Restarts j ∷ more) = (j ≢ i) × StaysUp i more
 abbrev pub TurnsAreRun : Type 0
 TurnsAreRun = (domain : List ℕ) (n i : ℕ) (acts : List Act) (old new : Keepers) → Runs domain n old acts new →
     StaysUp i acts →
-    (packets : List (ℕ × Message)) × DoesItems (old.keepers i) (items_of i acts) packets (new.keepers i)
+    (packets : List (ℕ × EpochPacket)) × DoesItems (old.keepers i) (items_of i acts) packets (new.keepers i)

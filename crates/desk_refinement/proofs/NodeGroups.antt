@@ -5,7 +5,7 @@ use Rattle.std.specs.List.{AllByRecursion, Contains}
 use Rattle.std.proofs.lemmas.Bool.{cases_eq, eq-eqb, ne_eqb}
 use Rattle.std.proofs.lemmas.List.Elements.{Contains-append_left, Contains-append_right}
 use mathlib.Core.List.{IsPrefix}
-use Rattle.desk_types.specs.declared.packet.Message.{Message}
+use Rattle.desk_types.specs.declared.epoch_packet.EpochPacket.{EpochPacket}
 use Rattle.desk_log.specs.SavedValue.{committed_entries}
 use Rattle.desk_mailbox.specs.declared.item.Item.{Item}
 use Rattle.desk_mailbox.specs.declared.item.Item.TheVariants as items
@@ -24,25 +24,25 @@ use Rattle.desk_refinement.specs.Groups.{AreGroup, NodesAreGroups, TurnsPublish}
 use Rattle.desk_refinement.proofs.Queued.{queued_was_handed}
 
 -- what was queued was handed out, item by item
-handed_too : (ps qs : List (ℕ × Message)) (i : ℕ) (item : Item) →
-    ((s : ℕ × Message) → Contains ps s → Contains qs s) → WasHanded ps i item → WasHanded qs i item
+handed_too : (ps qs : List (ℕ × EpochPacket)) (i : ℕ) (item : Item) →
+    ((s : ℕ × EpochPacket) → Contains ps s → Contains qs s) → WasHanded ps i item → WasHanded qs i item
 handed_too ps qs i (items.Request session entry) f h = tt
 handed_too ps qs i (items.Packet p) f h = f (i, p) h
 handed_too ps qs i items.Tick f h = tt
 handed_too ps qs i items.Stop f h = tt
 
-all_handed : (ps qs : List (ℕ × Message)) (i : ℕ) (turn : List Item) →
-    ((s : ℕ × Message) → Contains ps s → Contains qs s) → AllByRecursion (WasHanded ps i) turn →
+all_handed : (ps qs : List (ℕ × EpochPacket)) (i : ℕ) (turn : List Item) →
+    ((s : ℕ × EpochPacket) → Contains ps s → Contains qs s) → AllByRecursion (WasHanded ps i) turn →
     AllByRecursion (WasHanded qs i) turn
 all_handed ps qs i [] f h = tt
 all_handed ps qs i (item ∷ more) f h = (handed_too ps qs i item f h.0, all_handed ps qs i more f h.1)
 
 -- the group with another keeper of node i, after these packets
-abbrev with_keeper : Keepers → ℕ → OwnedValue → List (ℕ × Message) → Keepers
+abbrev with_keeper : Keepers → ℕ → OwnedValue → List (ℕ × EpochPacket) → Keepers
 with_keeper k i owned packets =
     record { keepers = λ j. if eqb j i then owned else k.keepers j; handed = k.handed ++ packets }
 
-becomes : (n i : ℕ) (k : Keepers) (owned : OwnedValue) (packets : List (ℕ × Message)) → i < n →
+becomes : (n i : ℕ) (k : Keepers) (owned : OwnedValue) (packets : List (ℕ × EpochPacket)) → i < n →
     KeeperBecomes n i k owned (with_keeper k i owned packets)
 becomes n i k owned packets small =
     let here : eqb i i ≡ true = eq-eqb i i refl in
@@ -54,15 +54,16 @@ becomes n i k owned packets small =
 
 module _ {O S : Type 0} (g : Ghosts O) (s : StoreGhosts S) (ends : O → QueueEnds) (puts : PutsIntoQueues g ends)
     (most : ℕ) (domain : List ℕ) (n : ℕ) where
-  put_was_handed : (old new : O) (handed packets : List (ℕ × Message)) → handed ≡ packets → g.takes old handed new →
-      (sent : ℕ × Message) → WasPut (ends old) (ends new) sent → Contains packets sent
+  put_was_handed : (old new : O) (handed packets : List (ℕ × EpochPacket)) → handed ≡ packets → g.takes old handed new →
+      (sent : ℕ × EpochPacket) → WasPut (ends old) (ends new) sent → Contains packets sent
   put_was_handed old new handed packets same gave sent put =
       queued_was_handed (ends old) (ends new) packets sent
-      (subst (λ (ps : List (ℕ × Message)). HasQueued (ends old) ps (ends new)) same (puts old new handed gave)) put
+      (subst (λ (ps : List (ℕ × EpochPacket)). HasQueued (ends old) ps (ends new)) same (puts old new handed gave)) put
 
-  follows : (i : ℕ) (old new : Nodes O S) (out : O) (k : Keepers) (owned : OwnedValue) (packets : List (ℕ × Message)) →
-      AreGroup old k → OneChanges ends n i old out new → (new.stands i).replica.owned ≡ owned →
-      ((sent : ℕ × Message) → WasPut (ends (old.stands i).out) (ends out) sent → Contains packets sent) →
+  follows : (i : ℕ) (old new : Nodes O S) (out : O) (k : Keepers) (owned : OwnedValue)
+      (packets : List (ℕ × EpochPacket)) → AreGroup old k → OneChanges ends n i old out new →
+      (new.stands i).replica.owned ≡ owned →
+      ((sent : ℕ × EpochPacket) → WasPut (ends (old.stands i).out) (ends out) sent → Contains packets sent) →
       AreGroup new (with_keeper k i owned packets)
   follows i old new out k owned packets are one is put = record {
     keepers = λ j. by_node j (cases_eq j i);
@@ -80,7 +81,7 @@ module _ {O S : Type 0} (g : Ghosts O) (s : StoreGhosts S) (ends : O → QueueEn
           let test : eqb j i ≡ false = ne_eqb j i ne in
           rw test (are.keepers j ∙ ap (λ (x : NodeStand O S). x.replica.owned) (sym (one.there j ne)))
 
-  one_turn : (i : ℕ) (old : Nodes O S) (k : Keepers) (turn : List Item) (packets : List (ℕ × Message))
+  one_turn : (i : ℕ) (old : Nodes O S) (k : Keepers) (turn : List Item) (packets : List (ℕ × EpochPacket))
       (owned : OwnedValue) → AreGroup old k → AllByRecursion (WasHanded old.queued i) turn →
       DoesItems (old.stands i).replica.owned turn packets owned → OneTurn i k turn packets owned
   one_turn i old k turn packets owned are brought does = record {
@@ -124,7 +125,7 @@ module _ {O S : Type 0} (g : Ghosts O) (s : StoreGhosts S) (ends : O → QueueEn
       after : (e.found ≡ e.owned.node.saved) × (e.handed ≡ take count e.packets) → OneAct k new
       after is =
           let owned : OwnedValue = started domain n i e.owned.node.saved in
-          let some : List (ℕ × Message) = take count e.packets in
+          let some : List (ℕ × EpochPacket) = take count e.packets in
           record {
             act = Breaks i turn count;
             group = with_keeper k i owned some;
@@ -173,7 +174,7 @@ module _ {O S : Type 0} (g : Ghosts O) (s : StoreGhosts S) (ends : O → QueueEn
   new_are new fresh = record {
     keepers = λ i. sym (fresh.owned i);
     handed = λ sent c. absurd (Contains-none sent
-        (subst (λ (ps : List (ℕ × Message)). Contains ps sent) fresh.none c));
+        (subst (λ (ps : List (ℕ × EpochPacket)). Contains ps sent) fresh.none c));
   }
 
 pub nodes_are_groups : {O S : Type 0} (g : Ghosts O) (s : StoreGhosts S) → NodesAreGroups g s

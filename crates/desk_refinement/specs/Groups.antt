@@ -1,7 +1,7 @@
 -- That nodes which run are a group of keepers.
 use Rattle.std.specs.Prelude.{◌≡◌, ◌++◌, ℕ, List, map, Contains}
 use Rattle.std.specs.List.{AllByRecursion}
-use Rattle.desk_types.specs.declared.packet.Message.{Message}
+use Rattle.desk_types.specs.declared.epoch_packet.EpochPacket.{EpochPacket}
 use Rattle.desk_mailbox.specs.declared.item.Item.{Item}
 use Rattle.desk_mailbox.specs.declared.item.Item.TheVariants as items
 use Rattle.desk_log.specs.declared.state_store.StateStore.{Ghosts as StoreGhosts}
@@ -14,14 +14,14 @@ use Rattle.desk_refinement.specs.Nodes.{Nodes, NodeChange, RunTo, AreNewNodes, T
 
 -- What a node's queues put for node i, of packets that its keeper handed out, node i may take in a group from then on.
 abbrev pub QueuedMayBeTaken : Type 0
-QueuedMayBeTaken = (i : ℕ) (old new : QueueEnds) (handed packets : List (ℕ × Message)) (put : List Message) →
+QueuedMayBeTaken = (i : ℕ) (old new : QueueEnds) (handed packets : List (ℕ × EpochPacket)) (put : List EpochPacket) →
     HasQueued old packets new → put_to new i ≡ put_to old i ++ put →
     AllByRecursion (WasHanded (handed ++ packets) i) (map (λ p. items.Packet p) put)
 
 -- The group has the nodes' keepers, and what the nodes queued was handed out in it.
 pub record AreGroup {O S : Type 0} (nodes : Nodes O S) (g : Keepers) : Type 0 where
   pub keepers : (i : ℕ) → g.keepers i ≡ (nodes.stands i).replica.owned
-  pub handed : (sent : ℕ × Message) → Contains nodes.queued sent → Contains g.handed sent
+  pub handed : (sent : ℕ × EpochPacket) → Contains nodes.queued sent → Contains g.handed sent
 
 -- Whatever happens among nodes with these queues, there are acts of a group that has their keepers; and later it goes
 -- on to theirs then.

@@ -1,7 +1,7 @@
 -- Nodes that run, and what happens among them, by what the contracts of their parts promise.
 use Rattle.std.specs.Prelude.{◌≡◌, ◌≢◌, ◌<◌, ◌⊎◌, ℕ, List, [], ◌∷◌, ◌++◌, take, Contains}
 use Rattle.std.specs.List.{AllByRecursion}
-use Rattle.desk_types.specs.declared.packet.Message.{Message}
+use Rattle.desk_types.specs.declared.epoch_packet.EpochPacket.{EpochPacket}
 use Rattle.desk_log.specs.SavedValue.{SavedValue, initial_saved}
 use Rattle.desk_mailbox.specs.declared.item.Item.{Item}
 use Rattle.desk_log.specs.declared.state_store.StateStore.{Ghosts as StoreGhosts}
@@ -15,9 +15,9 @@ use Rattle.desk_network.specs.Putting.{QueueEnds}
 use Rattle.desk_group.specs.Group.{started, WasHanded}
 
 -- A packet was put into the queue to its receiver between two moments.
-abbrev pub WasPut : QueueEnds → QueueEnds → ℕ × Message → Type 0
+abbrev pub WasPut : QueueEnds → QueueEnds → ℕ × EpochPacket → Type 0
 WasPut old new sent =
-    (put : List Message) × (put_to new sent.0 ≡ put_to old sent.0 ++ put) × Contains put sent.1
+    (put : List EpochPacket) × (put_to new sent.0 ≡ put_to old sent.0 ++ put) × Contains put sent.1
 
 -- where the keeper of a node with its store stands
 abbrev pub NodeStand : Type 0 → Type 0 → Type 0
@@ -31,7 +31,7 @@ TakesNodeTurn g s most turn old new = TakesTurn g saved_node_replica (node_savin
 -- where the keeper of each node stands, and all packets that any node ever put into its queues, each with its receiver
 pub record Nodes (O S : Type 0) : Type 0 where
   pub stands : ℕ → NodeStand O S
-  pub queued : List (ℕ × Message)
+  pub queued : List (ℕ × EpochPacket)
 
 -- What happens: a node's keeper takes a turn of items; or its process ends in such a turn, when at most so many of the
 -- turn's packets were handed out, and is started again. Where it ends between two turns, that turn has no items.
@@ -44,7 +44,7 @@ pub record OneChanges {O S : Type 0} (ends : O → QueueEnds) (n i : ℕ) (old :
     Type 0 where
   pub is_node : i < n
   pub there : (j : ℕ) → j ≢ i → new.stands j ≡ old.stands j
-  pub queued : (sent : ℕ × Message) → Contains new.queued sent →
+  pub queued : (sent : ℕ × EpochPacket) → Contains new.queued sent →
       Contains old.queued sent ⊎ WasPut (ends (old.stands i).out) (ends out) sent
 
 -- The process of a node ended in a turn. Where the turn was not saved nothing of it went out, and its keeper is started
@@ -52,10 +52,10 @@ pub record OneChanges {O S : Type 0} (ends : O → QueueEnds) (n i : ℕ) (old :
 pub record EndsIn {O S : Type 0} (g : Ghosts O) (domain : List ℕ) (n i : ℕ) (turn : List Item) (count : ℕ)
     (old : NodeStand O S) (out : O) (new : NodeStand O S) : Type 0 where
   pub owned : OwnedValue
-  pub packets : List (ℕ × Message)
+  pub packets : List (ℕ × EpochPacket)
   pub does : DoesItems old.replica.owned turn packets owned
   pub found : SavedValue
-  pub handed : List (ℕ × Message)
+  pub handed : List (ℕ × EpochPacket)
   pub saved : ((found ≡ old.replica.owned.node.saved) × (handed ≡ []))
       ⊎ ((found ≡ owned.node.saved) × (handed ≡ take count packets))
   pub gave : g.takes old.out handed out

@@ -4,7 +4,7 @@ use Rattle.sqlite_trees.specs.declared.store.Store.{Ghosts}
 use Rattle.sqlite.specs.Effect.{Database, IsDatabase}
 use Rattle.sqlite.specs.State.{HasCleanDisk}
 use Rattle.sqlite.specs.Held.{state}
-use Rattle.desk_types.specs.declared.packet.Message.{Message}
+use Rattle.desk_types.specs.declared.epoch_packet.EpochPacket.{EpochPacket}
 use Rattle.desk_types.specs.declared.refusal.Refusal.{Refusal}
 use Rattle.desk_log.specs.SavedValue.{SavedValue}
 use Rattle.desk_mailbox.specs.declared.item.Item.{Item}
@@ -45,7 +45,7 @@ FindsEither {S} g = (file : StoreValue S) (given found : SavedValue) → FindsAf
 -- a restart from the state before the turn, or a stop in it of which no packet went out.
 abbrev pub StopsInSaveHappen : {S : Type 0} → Ghosts S → Type 0
 StopsInSaveHappen {S} g = (domain : List ℕ) (n i : ℕ) (old new : Keepers) (turn : List Item)
-    (packets : List (ℕ × Message)) (owned : OwnedValue) (file : StoreValue S) (found : SavedValue) →
+    (packets : List (ℕ × EpochPacket)) (owned : OwnedValue) (file : StoreValue S) (found : SavedValue) →
     OneTurn i old turn packets owned → file.last ≡ (old.keepers i).node.saved →
     FindsAfterSave g file owned.node.saved found → KeeperBecomes n i old (started domain n i found) new →
     new.handed ≡ old.handed → Happens domain n old (Restarts i) new ⊎ Happens domain n old (Breaks i turn 0) new
@@ -59,7 +59,7 @@ FindsGiven {S} g = (file : StoreValue S) (given found : SavedValue) (f : FindsAf
 -- what is found is a stop in that turn.
 abbrev pub StopsAfterSaveHappen : {S : Type 0} → Ghosts S → Type 0
 StopsAfterSaveHappen {S} g = (domain : List ℕ) (n i count : ℕ) (old new : Keepers) (turn : List Item)
-    (packets : List (ℕ × Message)) (owned : OwnedValue) (file : StoreValue S) (found : SavedValue)
+    (packets : List (ℕ × EpochPacket)) (owned : OwnedValue) (file : StoreValue S) (found : SavedValue)
     (f : FindsAfterSave g file owned.node.saved found) → OneTurn i old turn packets owned →
     HasSaved {T = Unit {0}} g file f.left owned.node.saved (Ok tt) →
     KeeperBecomes n i old (started domain n i found) new → new.handed ≡ old.handed ++ take count packets →

@@ -1,7 +1,7 @@
 -- What items make of a keeper: of none, of one, and one list of them after another.
 use Rattle.std.proofs.Common.{◌≡◌, ◌++◌, ℕ, List, [], ◌∷◌, refl, sym, ◌∙◌, ap, subst, inl, inr}
 use Rattle.std.proofs.Common.{append_assoc, append-nil}
-use Rattle.desk_types.specs.declared.packet.Message.{Message}
+use Rattle.desk_types.specs.declared.epoch_packet.EpochPacket.{EpochPacket}
 use Rattle.desk_mailbox.specs.declared.item.Item.{Item}
 use Rattle.desk_node.specs.Heard.{Says}
 use Rattle.desk_node.specs.NodeValue.{IsSameNode}
@@ -10,12 +10,12 @@ use Rattle.desk_threads.specs.NodeInOrder.{same_refl, same_trans}
 use Rattle.desk_threads.specs.OwnedValue.{OwnedValue, state_of, IsStateOf, DoesItem, with_one_refused, DoesItems}
 
 preserved_then : (domain : List ℕ) (i n : ℕ) (k m new : KeeperState) (items more : List Item)
-    (packets others : List (ℕ × Message)) → TakesItems domain i n k items packets m →
+    (packets others : List (ℕ × EpochPacket)) → TakesItems domain i n k items packets m →
     TakesItems domain i n m more others new →
     TakesItems domain i n k (items ++ more) (packets ++ others) new
 preserved_then domain i n k m new [] more packets others h t =
     subst (λ (x : KeeperState). TakesItems domain i n x more (packets ++ others) new) h.0
-    (subst (λ (w : List (ℕ × Message)). TakesItems domain i n m more (w ++ others) new) (sym h.1) t)
+    (subst (λ (w : List (ℕ × EpochPacket)). TakesItems domain i n m more (w ++ others) new) (sym h.1) t)
 preserved_then domain i n k m new (x ∷ xs) more packets others (mid, first, rest, t, r, e) u = (
   mid,
   first,
@@ -25,7 +25,7 @@ preserved_then domain i n k m new (x ∷ xs) more packets others (mid, first, re
   ap (λ w. w ++ others) e ∙ append_assoc first rest others,
 )
 
-preserved_one : (domain : List ℕ) (i n : ℕ) (k new : KeeperState) (item : Item) (packets : List (ℕ × Message)) →
+preserved_one : (domain : List ℕ) (i n : ℕ) (k new : KeeperState) (item : Item) (packets : List (ℕ × EpochPacket)) →
     TakesItem domain i n k item packets new → TakesItems domain i n k (item ∷ []) packets new
 preserved_one domain i n k new item packets t = (new, packets, [], t, (refl, refl), sym (append-nil packets))
 
@@ -36,10 +36,10 @@ keeps_none k = record {
 }
 
 -- the step that leads to a state, with these packets
-abbrev step_to : KeeperState → List (ℕ × Message) → KeeperStep
+abbrev step_to : KeeperState → List (ℕ × EpochPacket) → KeeperStep
 step_to k packets = record { keeper = k; packets = packets }
 
-pub keeps_one : (k new : OwnedValue) (item : Item) (packets : List (ℕ × Message)) → DoesItem k item packets new →
+pub keeps_one : (k new : OwnedValue) (item : Item) (packets : List (ℕ × EpochPacket)) → DoesItem k item packets new →
     IsSameNode k.node new.node → DoesItems k (item ∷ []) packets new
 keeps_one k new item packets does same = record {
   same = same;
@@ -64,7 +64,7 @@ keeps_refused k new item e = subst (λ (x : OwnedValue). DoesItems k (item ∷ [
   );
 })
 
-pub keeps_then : (k m new : OwnedValue) (items more : List Item) (packets others : List (ℕ × Message)) →
+pub keeps_then : (k m new : OwnedValue) (items more : List Item) (packets others : List (ℕ × EpochPacket)) →
     DoesItems k items packets m → DoesItems m more others new → DoesItems k (items ++ more) (packets ++ others) new
 keeps_then k m new items more packets others a b = record {
   same = same_trans k.node m.node new.node a.same b.same;

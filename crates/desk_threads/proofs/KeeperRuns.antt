@@ -1,7 +1,7 @@
 -- Runs of a keeper: of none, of one, and one after another.
 use Rattle.std.proofs.Common.{◌≡◌, ◌++◌, ℕ, List, [], ◌∷◌, refl, sym, ◌∙◌, ap, subst, append_assoc, append-nil}
 use Rattle.std.proofs.Common.{Result, Ok, Err, OnOk, IfOk, OnErr, IfErr, Option, Some, MatchOption}
-use Rattle.desk_types.specs.declared.packet.Message.{Message}
+use Rattle.desk_types.specs.declared.epoch_packet.EpochPacket.{EpochPacket}
 use Rattle.desk_mailbox.specs.declared.item.Item.{Item}
 use Rattle.desk_mailbox.specs.declared.rule.SentItem.{SentItem}
 use Rattle.desk_threads.specs.declared.handing.Out.{Ghosts}
@@ -21,7 +21,7 @@ TakesNone {O} g = (out : O) → g.takes out [] out
 
 -- packets are taken one after the other
 abbrev pub TakesThen : {O : Type 0} → Ghosts O → Type 0
-TakesThen {O} g = (old mid new : O) → (first last : List (ℕ × Message)) → g.takes old first mid →
+TakesThen {O} g = (old mid new : O) → (first last : List (ℕ × EpochPacket)) → g.takes old first mid →
     g.takes mid last new → g.takes old (first ++ last) new
 
 pub ran_none : {O R : Type 0} (g : Ghosts O) (h : ReplicaGhosts R) (s : Saving R) → TakesNone g →

@@ -2,7 +2,7 @@
 use Rattle.std.proofs.Common.{◌≡◌, ◌≢◌, ◌∙◌, ap, ℕ, List, Bool, true, sym, subst, Result, Ok, Err, IfOk, IfErr, OnErr}
 use Rattle.std.proofs.Common.{MatchBool}
 use Rattle.desk_types.specs.declared.command.Entry.{Entry}
-use Rattle.desk_types.specs.declared.packet.Message.{Message}
+use Rattle.desk_types.specs.declared.epoch_packet.EpochPacket.{EpochPacket}
 use Rattle.desk_types.specs.declared.refusal.Refusal.{Refusal}
 use Rattle.desk_threads.specs.declared.answer.Answer.{Answer}
 use Rattle.desk_threads.specs.declared.handing.Out.{Ghosts}
@@ -10,11 +10,11 @@ use Rattle.desk_threads.specs.Filed.{goes_on_after}
 use Rattle.desk_threads.proofs.KeeperRuns.{if_ok}
 
 -- the item was done, and its packets went out
-pub item_done : {O A : Type 0} (g : Ghosts O) (Does : List (ℕ × Message) → List Answer → Type 0)
-    (outcome : Result A Refusal) (packets_of : A → List (ℕ × Message)) (answers_of : A → List Answer) (step : A)
+pub item_done : {O A : Type 0} (g : Ghosts O) (Does : List (ℕ × EpochPacket) → List Answer → Type 0)
+    (outcome : Result A Refusal) (packets_of : A → List (ℕ × EpochPacket)) (answers_of : A → List Answer) (step : A)
     (answer : Result Bool Refusal) (whole : Bool) (old mid new : O) → outcome ≡ Ok step → answer ≡ Ok whole →
     new ≡ mid → IfOk outcome (λ s. Does (packets_of s) (answers_of s)) → g.takes old (packets_of step) mid →
-    IfOk answer (λ _. (packets : List (ℕ × Message)) × (answers : List Answer) × Does packets answers
+    IfOk answer (λ _. (packets : List (ℕ × EpochPacket)) × (answers : List Answer) × Does packets answers
     × g.takes old packets new)
 item_done g Does outcome packets_of answers_of step answer whole old mid new is answer_is new_is did gave =
     rw answer_is (

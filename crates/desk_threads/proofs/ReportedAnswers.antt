@@ -3,7 +3,7 @@ use Rattle.std.proofs.Common.{◌≡◌, ℕ, List, Bool, true, false, map, ap, 
 use Rattle.std.proofs.Common.{Result, Ok, Err, IfOk, IfErr}
 use Rattle.std.specs.List.{AllZip}
 use Rattle.desk_types.specs.declared.command.Entry.{Entry}
-use Rattle.desk_types.specs.declared.packet.Message.{Message}
+use Rattle.desk_types.specs.declared.epoch_packet.EpochPacket.{EpochPacket}
 use Rattle.desk_types.specs.declared.refusal.Refusal.{Refusal}
 use Rattle.desk_types.specs.declared.refusal.Refusal.TheVariants as refusals
 use Rattle.desk_types.specs.Refusal.{is_want_of_memory, IsStoreRefusal}
@@ -27,14 +27,14 @@ reported_from list noted going before new goes know going_is goes_is before_is r
     subst (λ l. AreInformed list l new) (before_is ∙ going_is ∙ ap (λ b. waiting_on b noted) goes_is) reported
 
 -- at Ok
-pub reported_done : {A : Type 0} (outcome : Result A Refusal) (packets_of : A → List (ℕ × Message))
+pub reported_done : {A : Type 0} (outcome : Result A Refusal) (packets_of : A → List (ℕ × EpochPacket))
     (answers_of : A → List Answer) (step : A) (answer : Result Bool Refusal) (whole : Bool)
-    (Does : List (ℕ × Message) → List Answer → Type 0) (list : List Entry)
+    (Does : List (ℕ × EpochPacket) → List Answer → Type 0) (list : List Entry)
     (noted going mid before new : List SessionValue) (goes : Bool) → outcome ≡ Ok step → answer ≡ Ok whole →
     goes ≡ goes_on_after outcome → going ≡ waiting_on goes noted →
     IfOk outcome (λ s. Does (packets_of s) (answers_of s)) → AllZip (HearsAll (answers_of step)) going mid →
     before ≡ mid → AreInformed list before new →
-    IfOk answer (λ _. (packets : List (ℕ × Message)) × (answers : List Answer) × Does packets answers
+    IfOk answer (λ _. (packets : List (ℕ × EpochPacket)) × (answers : List Answer) × Does packets answers
     × HearAndAreInformed list answers noted new)
 reported_done outcome packets_of answers_of step answer whole Does list noted going mid before new goes is answer_is
     goes_is going_is did heard before_is reported = rw answer_is (

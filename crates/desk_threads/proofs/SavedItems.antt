@@ -1,7 +1,7 @@
 -- Items with saves between them: of none, of a turn that was saved, and one list of them after another.
 use Rattle.std.proofs.Common.{◌≡◌, ◌<◌, ◌++◌, ◌∙◌, ℕ, List, [], ◌∷◌, length, refl, sym, ap, subst, inl, inr}
 use Rattle.std.proofs.Common.{append_assoc, arith, Result, Ok, Err}
-use Rattle.desk_types.specs.declared.packet.Message.{Message}
+use Rattle.desk_types.specs.declared.epoch_packet.EpochPacket.{EpochPacket}
 use Rattle.desk_types.specs.declared.refusal.Refusal.{Refusal}
 use Rattle.desk_mailbox.specs.declared.item.Item.{Item}
 use Rattle.desk_threads.specs.declared.answer.Answer.{Answer}
@@ -17,11 +17,11 @@ pub saves_none : {R : Type 0} (g : Ghosts R) (s : Saving R) (k : R) → MeetsAnd
 saves_none g s k = (refl, refl, refl)
 
 pub saves_then : {R : Type 0} (g : Ghosts R) (s : Saving R) (k m new : R) (xs ys : List Item)
-    (p q : List (ℕ × Message)) (a b : List Answer) → MeetsAndSaves g s k xs p a m → MeetsAndSaves g s m ys q b new →
+    (p q : List (ℕ × EpochPacket)) (a b : List Answer) → MeetsAndSaves g s k xs p a m → MeetsAndSaves g s m ys q b new →
     MeetsAndSaves g s k (xs ++ ys) (p ++ q) (a ++ b) new
 saves_then {R} g s k m new [] ys p q a b (e, f, same) h =
     subst (λ (x : R). MeetsAndSaves g s x ys (p ++ q) (a ++ b) new) same
-    (subst (λ (w : List (ℕ × Message)). MeetsAndSaves g s m ys (w ++ q) (a ++ b) new) (sym e)
+    (subst (λ (w : List (ℕ × EpochPacket)). MeetsAndSaves g s m ys (w ++ q) (a ++ b) new) (sym e)
     (subst (λ (w : List Answer). MeetsAndSaves g s m ys q (w ++ b) new) (sym f) h))
 saves_then g s k m new (x ∷ xs) ys p q a b (made, mid, first, last, early, late, e, f, one, saved, more) h = (
   made,
@@ -39,7 +39,7 @@ saves_then g s k m new (x ∷ xs) ys p q a b (made, mid, first, last, early, lat
 
 -- the items of a turn were met, and what they made was saved
 pub turn_saves : {R : Type 0} (g : Ghosts R) (s : Saving R) (k made new : R) (turn : List Item)
-    (packets : List (ℕ × Message)) (answers : List Answer) → 0 < length turn →
+    (packets : List (ℕ × EpochPacket)) (answers : List Answer) → 0 < length turn →
     MeetsItems g k turn packets answers made → s.saves made new → MeetsAndSaves g s k turn packets answers new
 turn_saves g s k made new [] packets answers some met saved = absurd (omega (arith, some))
 turn_saves {R} g s k made new (x ∷ []) packets answers some (mid, first, last, early, late, e, f, one, rest) saved = (

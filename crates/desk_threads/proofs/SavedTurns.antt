@@ -5,7 +5,7 @@ use Rattle.std.proofs.lemmas.List.{length-take}
 use mathlib.Core.List.{IsPrefix}
 use Rattle.desk_types.specs.declared.command.Entry.{Entry}
 use Rattle.desk_types.specs.declared.owner.Owner.{Owner}
-use Rattle.desk_types.specs.declared.packet.Message.{Message}
+use Rattle.desk_types.specs.declared.epoch_packet.EpochPacket.{EpochPacket}
 use Rattle.desk_log.specs.Entries.{IsLogPrefix}
 use Rattle.desk_log.specs.SavedValue.{SavedValue, committed_entries}
 use Rattle.desk_log.specs.declared.state_store.StateStore.{Ghosts as StoreGhosts}
@@ -27,14 +27,14 @@ use Rattle.desk_threads.specs.Saving.{LogsGoOn, StaysSaved}
 use Rattle.desk_threads.specs.Telling.{AnswersItems}
 use Rattle.desk_threads.proofs.ReplicaItems.{node_replica, node_items}
 
-saved_item : {S : Type 0} (k new : SavedNode S) (item : Item) (packets : List (ℕ × Message)) (answers : List Answer) →
-    MeetsItem saved_node_replica k item packets answers new →
+saved_item : {S : Type 0} (k new : SavedNode S) (item : Item) (packets : List (ℕ × EpochPacket))
+    (answers : List Answer) → MeetsItem saved_node_replica k item packets answers new →
     MeetsItem node_replica k.owned item packets answers new.owned × (new.store ≡ k.store)
 saved_item k new item packets answers (inl (does, same)) = (inl does, same)
 saved_item k new item packets answers (inr (none, silent, (refused, same))) = (inr (none, silent, refused), same)
 
 -- what items make of the node, and that they leave the store
-pub saved_items : {S : Type 0} (k new : SavedNode S) (items : List Item) (packets : List (ℕ × Message))
+pub saved_items : {S : Type 0} (k new : SavedNode S) (items : List Item) (packets : List (ℕ × EpochPacket))
     (answers : List Answer) → MeetsItems saved_node_replica k items packets answers new →
     MeetsItems node_replica k.owned items packets answers new.owned × (new.store ≡ k.store)
 saved_items {S} k new [] packets answers (none, silent, same) =
@@ -46,7 +46,7 @@ saved_items k new (item ∷ more) packets answers (mid, first, last, early, late
 
 -- Items of the node with saves between them are its items.
 saves_items : {S : Type 0} (g : StoreGhosts S) (k new : SavedNode S) (items : List Item)
-    (packets : List (ℕ × Message)) (answers : List Answer) →
+    (packets : List (ℕ × EpochPacket)) (answers : List Answer) →
     MeetsAndSaves saved_node_replica (node_saving g) k items packets answers new →
     MeetsItems node_replica k.owned items packets answers new.owned
 saves_items {S} g k new [] packets answers (none, silent, same) =
@@ -100,7 +100,7 @@ node_turn_shown out g most turn old new took =
 pub node_ran : {O S : Type 0} (out : OutGhosts O) (g : StoreGhosts S) (taken taken_now : List (SentItem Item))
     (old new : SavedNode S) (was now : O) →
     Ran out saved_node_replica (node_saving g) taken old was taken_now new now →
-    (sent : List (SentItem Item)) × (packets : List (ℕ × Message)) × (taken_now ≡ taken ++ sent)
+    (sent : List (SentItem Item)) × (packets : List (ℕ × EpochPacket)) × (taken_now ≡ taken ++ sent)
     × DoesItems old.owned (items_in sent) packets new.owned × out.takes was packets now
 node_ran out g taken taken_now old new was now (sent, packets, answers, e, met, gave) = (
   sent,
@@ -114,7 +114,7 @@ node_ran out g taken taken_now old new was now (sent, packets, answers, e, met, 
 -- A turn that was not saved: its items were done or refused, and the store is what it promises of that.
 pub node_fails : {S : Type 0} (g : StoreGhosts S) (old new : SavedNode S) (turn : List Item) →
     MeetsAndFails saved_node_replica (node_saving g) old turn new →
-    ((packets : List (ℕ × Message)) × DoesItems old.owned turn packets new.owned)
+    ((packets : List (ℕ × EpochPacket)) × DoesItems old.owned turn packets new.owned)
     × IsUnfiled g old.store new.store old.owned.node.saved new.owned.node.saved
 node_fails {S} g old new turn (packets, answers, made, met, was, failed) =
     let m = saved_items old made turn packets answers met in
@@ -128,7 +128,7 @@ node_fails {S} g old new turn (packets, answers, made, met, was, failed) =
     )
 
 -- An item that was done and saved, as `Keeper::handle` promises it.
-pub node_did : {S : Type 0} (g : StoreGhosts S) (old new : SavedNode S) (item : Item) (packets : List (ℕ × Message))
+pub node_did : {S : Type 0} (g : StoreGhosts S) (old new : SavedNode S) (item : Item) (packets : List (ℕ × EpochPacket))
     (answers : List Answer) → DoesAndSaves saved_node_replica (node_saving g) old item packets answers new →
     DoesItem old.owned item packets new.owned × AnswersSessions old.owned item answers
     × IsSameNode old.owned.node new.owned.node
@@ -139,8 +139,9 @@ node_did {S} g old new item packets answers (made, does, saved) = (
 )
 
 -- And one whose save failed.
-pub node_made : {S : Type 0} (g : StoreGhosts S) (old new : SavedNode S) (item : Item) (packets : List (ℕ × Message))
-    (answers : List Answer) → DoesAndFails saved_node_replica (node_saving g) old item packets answers new →
+pub node_made : {S : Type 0} (g : StoreGhosts S) (old new : SavedNode S) (item : Item)
+    (packets : List (ℕ × EpochPacket)) (answers : List Answer) →
+    DoesAndFails saved_node_replica (node_saving g) old item packets answers new →
     DoesItem old.owned item packets new.owned
     × IsUnfiled g old.store new.store old.owned.node.saved new.owned.node.saved
 node_made {S} g old new item packets answers (made, does, was, failed) = (

@@ -3,10 +3,11 @@ use Rattle.std.proofs.Common.{◌≡◌, ◌++◌, ◌<◌, ◌≤◌, ℕ, ◌+
 use Rattle.std.proofs.Common.{append-nil, length, length-append, arith, Result, Ok, Err, OnOk, IfOk, OnErr, IfErr}
 use Rattle.std.proofs.Common.{Option, None, inl, inr}
 use Rattle.std.specs.List.{AllZip}
-use Rattle.desk_types.specs.declared.packet.Message.{Message}
+use Rattle.desk_types.specs.declared.epoch_packet.EpochPacket.{EpochPacket}
 use Rattle.desk_mailbox.specs.declared.item.Item.{Item}
 use Rattle.desk_mailbox.specs.declared.rule.SentItem.{SentItem}
 use Rattle.desk_threads.specs.declared.item_step.ItemStep.{ItemStep}
+use Rattle.desk_threads.specs.EpochPackets.{packets_of_step}
 use Rattle.desk_threads.specs.Waiting.{SessionValue, HearsAll}
 use Rattle.desk_threads.proofs.ReplicaItems.{meets_one, meets_then}
 use Rattle.desk_threads.specs.Turns.{packets_of_steps, answers_of_steps, MetMore, TookMore, NotesMore}
@@ -20,8 +21,8 @@ use Rattle.desk_threads.proofs.TurnTelling.{notes_then, hears_then}
 pub packets_then : (xs ys : List ItemStep) → packets_of_steps (xs ++ ys) ≡ packets_of_steps xs ++ packets_of_steps ys
 packets_then [] ys = refl
 packets_then (x ∷ xs) ys =
-    ap (λ w. x.packets.items ++ w) (packets_then xs ys)
-    ∙ sym (append_assoc x.packets.items (packets_of_steps xs) (packets_of_steps ys))
+    ap (λ w. packets_of_step x ++ w) (packets_then xs ys)
+    ∙ sym (append_assoc (packets_of_step x) (packets_of_steps xs) (packets_of_steps ys))
 
 answers_push : (xs : List ItemStep) (s : ItemStep) →
     answers_of_steps (xs ++ s ∷ []) ≡ answers_of_steps xs ++ s.answers
@@ -39,12 +40,12 @@ heard_push xs s old mid new one more =
     (hears_then (answers_of_steps xs) s.answers old mid new one more)
 
 packets_push : (xs : List ItemStep) (s : ItemStep) →
-    packets_of_steps (xs ++ s ∷ []) ≡ packets_of_steps xs ++ s.packets.items
-packets_push xs s = packets_then xs (s ∷ []) ∙ ap (λ w. packets_of_steps xs ++ w) (append-nil s.packets.items)
+    packets_of_steps (xs ++ s ∷ []) ≡ packets_of_steps xs ++ packets_of_step s
+packets_push xs s = packets_then xs (s ∷ []) ∙ ap (λ w. packets_of_steps xs ++ w) (append-nil (packets_of_step s))
 
 -- the packets of one step more were handed out
 pub gave_push : {O : Type 0} (g : OutGhosts O) → TakesThen g → (old mid new : O) (xs : List ItemStep) (s : ItemStep)
-    (packets : List (ℕ × Message)) → packets ≡ s.packets.items → g.takes old (packets_of_steps xs) mid →
+    (packets : List (ℕ × EpochPacket)) → packets ≡ packets_of_step s → g.takes old (packets_of_steps xs) mid →
     g.takes mid packets new → g.takes old (packets_of_steps (xs ++ s ∷ [])) new
 gave_push g more old mid new xs s packets e a b =
     subst (λ t. g.takes old t new) (ap (λ q. packets_of_steps xs ++ q) e ∙ sym (packets_push xs s))
@@ -71,14 +72,14 @@ met_then g k m new steps mid after xs ys (p, b, e, i, a) (q, c, f, j, h) = (
 
 -- one item was done
 pub met_one : {R : Type 0} (g : Ghosts R) (k new : R) (steps after : List ItemStep) (step : ItemStep) (item : Item) →
-    after ≡ steps ++ step ∷ [] → g.does k item step.packets.items step.answers new →
+    after ≡ steps ++ step ∷ [] → g.does k item (packets_of_step step) step.answers new →
     MetMore g k steps (item ∷ []) new after
 met_one g k new steps after step item is does = (
-  step.packets.items,
+  packets_of_step step,
   step.answers,
   ap packets_of_steps is ∙ packets_push steps step,
   ap answers_of_steps is ∙ answers_push steps step,
-  meets_one g k new item step.packets.items step.answers (inl does),
+  meets_one g k new item (packets_of_step step) step.answers (inl does),
 )
 
 -- one item was refused

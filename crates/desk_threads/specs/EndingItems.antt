@@ -21,7 +21,7 @@ may_carry_log (NewState from view base commit entries) = true
 -- A tick ends its turn, and so do a stop and a packet that may carry a log.
 abbrev pub ends_turn : Item → Bool
 ends_turn (items.Request session entry) = false
-ends_turn (items.Packet packet) = may_carry_log packet
+ends_turn (items.Packet p) = may_carry_log p.packet
 ends_turn items.Tick = true
 ends_turn items.Stop = true
 

@@ -11,14 +11,16 @@ use Rattle.desk_node.specs.Heard.{Says}
 use Rattle.desk_node.specs.Rules.{node_step}
 use Rattle.desk_threads.specs.declared.answer.Answer.{Answer}
 use Rattle.desk_threads.specs.Answers.{session_answers}
+use Rattle.desk_threads.specs.EpochPackets.{is_first_step}
 use Rattle.desk_threads.specs.Keeper.{KeeperState, suspects, tick_event}
 use Rattle.desk_threads.specs.OwnedValue.{OwnedValue, state_of}
 use Rattle.desk_threads.specs.Waiting.{SessionValue, after_stop, HearsAll, Tells}
 
--- what the node answers at an item
+-- what the node answers at an item; nothing at a packet that it drops
 abbrev pub item_answers : List ℕ → ℕ → ℕ → KeeperState → Item → List Outcome
 item_answers domain i n k (items.Request session entry) = (node_step domain i n k.node (events.Request entry)).answers
-item_answers domain i n k (items.Packet p) = (node_step domain i n k.node (events.Packet p)).answers
+item_answers domain i n k (items.Packet p) =
+    if is_first_step p then (node_step domain i n k.node (events.Packet p.packet)).answers else []
 item_answers domain i n k items.Tick =
     (node_step domain i n k.node (tick_event (suspects i n k.node.saved k.ticks))).answers
 item_answers domain i n k items.Stop = []

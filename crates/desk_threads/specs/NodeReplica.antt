@@ -1,6 +1,6 @@
 -- A keeper's node as what its items are done to.
 use Rattle.std.specs.Prelude.{◌≡◌, ℕ, List}
-use Rattle.desk_types.specs.declared.packet.Message.{Message}
+use Rattle.desk_types.specs.declared.epoch_packet.EpochPacket.{EpochPacket}
 use Rattle.desk_log.specs.Entries.{IsLogPrefix}
 use Rattle.desk_log.specs.SavedValue.{committed_entries}
 use Rattle.desk_mailbox.specs.declared.item.Item.{Item}
@@ -10,7 +10,7 @@ use Rattle.desk_threads.specs.ItemAnswers.{AnswersSessions}
 use Rattle.desk_threads.specs.OwnedValue.{OwnedValue, DoesItem, with_one_refused}
 
 -- The node did an item, gave these answers, and is the same node.
-abbrev pub NodeDoes : OwnedValue → Item → List (ℕ × Message) → List Answer → OwnedValue → Type 0
+abbrev pub NodeDoes : OwnedValue → Item → List (ℕ × EpochPacket) → List Answer → OwnedValue → Type 0
 NodeDoes old item packets answers new =
     DoesItem old item packets new × AnswersSessions old item answers × IsSameNode old.node new.node
 

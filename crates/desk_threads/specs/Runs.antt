@@ -3,7 +3,7 @@ use Rattle.std.specs.Prelude.{◌≡◌, ◌≢◌, ◌<◌, ◌≤◌, ◌⊎�
 use Rattle.std.specs.Prelude.{MatchBool}
 use mathlib.Core.List.{IsPrefix}
 use Rattle.desk_types.specs.declared.command.Entry.{Entry}
-use Rattle.desk_types.specs.declared.packet.Message.{Message}
+use Rattle.desk_types.specs.declared.epoch_packet.EpochPacket.{EpochPacket}
 use Rattle.desk_types.specs.declared.refusal.Refusal.{Refusal}
 use Rattle.desk_types.specs.declared.refusal.Refusal.TheVariants as refusals
 use Rattle.desk_mailbox.specs.declared.item.Item.{Item}
@@ -40,7 +40,7 @@ HasRunOut taken taken_now no_sender_left = TookStop taken taken_now ⊎ (no_send
 abbrev pub Ran : {O R : Type 0} → Ghosts O → ReplicaGhosts R → Saving R → List (SentItem Item) → R → O →
     List (SentItem Item) → R → O → Type 0
 Ran g h s taken replica out taken_now replica_now out_now =
-    (sent : List (SentItem Item)) × (packets : List (ℕ × Message)) × (answers : List Answer)
+    (sent : List (SentItem Item)) × (packets : List (ℕ × EpochPacket)) × (answers : List Answer)
     × (taken_now ≡ taken ++ sent) × MeetsAndSaves h s replica (items_in sent) packets answers replica_now
     × g.takes out packets out_now
 
@@ -71,7 +71,7 @@ pub record TakesTurn {O R : Type 0} (g : Ghosts O) (h : ReplicaGhosts R) (s : Sa
   pub some : 0 < length turn
   pub few : length turn ≤ most
   pub early : OnlyLastEnds turn
-  pub packets : List (ℕ × Message)
+  pub packets : List (ℕ × EpochPacket)
   pub answers : List Answer
   pub made : R
   pub does : MeetsItems h old.replica turn packets answers made

@@ -1,6 +1,6 @@
 -- Items of a replica that is saved.
 use Rattle.std.specs.Prelude.{◌≡◌, ◌⊎◌, ℕ, List, [], ◌∷◌, ◌++◌}
-use Rattle.desk_types.specs.declared.packet.Message.{Message}
+use Rattle.desk_types.specs.declared.epoch_packet.EpochPacket.{EpochPacket}
 use Rattle.desk_mailbox.specs.declared.item.Item.{Item}
 use Rattle.desk_threads.specs.declared.answer.Answer.{Answer}
 use Rattle.desk_threads.specs.declared.replica.Replica.{Ghosts}
@@ -8,28 +8,30 @@ use Rattle.desk_threads.specs.Replicas.{MeetsItem, MeetsItems}
 use Rattle.desk_threads.specs.Saving.{Saving}
 
 -- The item was done, and what it made was saved.
-abbrev pub DoesAndSaves : {R : Type 0} → Ghosts R → Saving R → R → Item → List (ℕ × Message) → List Answer → R → Type 0
+abbrev pub DoesAndSaves : {R : Type 0} → Ghosts R → Saving R → R → Item → List (ℕ × EpochPacket) → List Answer → R →
+    Type 0
 DoesAndSaves {R} g s old item packets answers new =
     (made : R) × g.does old item packets answers made × s.saves made new
 
 -- The item was done, and what it made was not saved: the state of before was the one that was saved last, and the save
 -- failed.
-abbrev pub DoesAndFails : {R : Type 0} → Ghosts R → Saving R → R → Item → List (ℕ × Message) → List Answer → R → Type 0
+abbrev pub DoesAndFails : {R : Type 0} → Ghosts R → Saving R → R → Item → List (ℕ × EpochPacket) → List Answer → R →
+    Type 0
 DoesAndFails {R} g s old item packets answers new =
     (made : R) × g.does old item packets answers made × s.is_saved old × s.fails made new
 
 -- So it is with items that were done or refused, in order.
 abbrev pub MeetsAndFails : {R : Type 0} → Ghosts R → Saving R → R → List Item → R → Type 0
 MeetsAndFails {R} g s old items new =
-    (packets : List (ℕ × Message)) × (answers : List Answer) × (made : R)
+    (packets : List (ℕ × EpochPacket)) × (answers : List Answer) × (made : R)
     × MeetsItems g old items packets answers made × s.is_saved old × s.fails made new
 
 -- The items were done or refused, in order, and what each of them made may have been saved after it.
-abbrev pub MeetsAndSaves : {R : Type 0} → Ghosts R → Saving R → R → List Item → List (ℕ × Message) → List Answer → R →
-    Type 0
+abbrev pub MeetsAndSaves : {R : Type 0} → Ghosts R → Saving R → R → List Item → List (ℕ × EpochPacket) →
+    List Answer → R → Type 0
 MeetsAndSaves g s old [] packets answers new = (packets ≡ []) × (answers ≡ []) × (new ≡ old)
 MeetsAndSaves {R} g s old (item ∷ more) packets answers new =
-    (made : R) × (mid : R) × (first : List (ℕ × Message)) × (last : List (ℕ × Message))
+    (made : R) × (mid : R) × (first : List (ℕ × EpochPacket)) × (last : List (ℕ × EpochPacket))
     × (early : List Answer) × (late : List Answer) × (packets ≡ first ++ last) × (answers ≡ early ++ late)
     × MeetsItem g old item first early made × ((mid ≡ made) ⊎ s.saves made mid)
     × MeetsAndSaves g s mid more last late new

@@ -5,7 +5,7 @@ use Rattle.std.proofs.Props.{props}
 use mathlib.Core.List.{IsPrefix}
 use Rattle.desk_types.specs.declared.command.Entry.{Entry}
 use Rattle.desk_types.specs.declared.owner.Owner.{Owner}
-use Rattle.desk_types.specs.declared.packet.Message.{Message}
+use Rattle.desk_types.specs.declared.epoch_packet.EpochPacket.{EpochPacket}
 use Rattle.desk_log.specs.SavedValue.{SavedValue, committed_entries}
 use Rattle.desk_log.specs.declared.state_store.StateStore.{Ghosts}
 use Rattle.desk_mailbox.specs.declared.item.Item.{Item}
@@ -21,7 +21,8 @@ use Rattle.desk_threads.specs.Saving.{Saving, LogsGoOn}
 use Rattle.desk_node.specs.NodeValue.{NodeValue, IsSameNode}
 
 -- The node did an item in memory, and its store is as it was.
-abbrev pub SavedNodeDoes : {S : Type 0} → SavedNode S → Item → List (ℕ × Message) → List Answer → SavedNode S → Type 0
+abbrev pub SavedNodeDoes : {S : Type 0} → SavedNode S → Item → List (ℕ × EpochPacket) → List Answer → SavedNode S →
+    Type 0
 SavedNodeDoes old item packets answers new =
     NodeDoes old.owned item packets answers new.owned × (new.store ≡ old.store)
 

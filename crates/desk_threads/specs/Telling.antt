@@ -2,7 +2,7 @@
 use Rattle.std.specs.Prelude.{◌≡◌, ◌⊎◌, ◌++◌, ℕ, List, [], ◌∷◌, map, Option, Some, None, option_to_list}
 use Rattle.std.specs.List.{AllZip}
 use Rattle.desk_types.specs.declared.command.Entry.{Entry}
-use Rattle.desk_types.specs.declared.packet.Message.{Message}
+use Rattle.desk_types.specs.declared.epoch_packet.EpochPacket.{EpochPacket}
 use Rattle.desk_mailbox.specs.declared.item.Item.{Item}
 use Rattle.desk_mailbox.specs.declared.item.Item.TheVariants as items
 use Rattle.desk_threads.specs.declared.answer.Answer.{Answer}
@@ -13,7 +13,7 @@ use Rattle.desk_threads.specs.Waiting.{SessionValue, after_item, after_stop, Hea
 -- The item was done, and this is what the node answered; or it was refused, and there is no answer.
 abbrev pub AnswersItem : OwnedValue → Item → List Answer → OwnedValue → Type 0
 AnswersItem old item answers new =
-    ((packets : List (ℕ × Message)) × DoesItem old item packets new × AnswersSessions old item answers)
+    ((packets : List (ℕ × EpochPacket)) × DoesItem old item packets new × AnswersSessions old item answers)
     ⊎ ((answers ≡ []) × (new ≡ with_one_refused old))
 
 -- So it is with items one after the other, and these are all answers, in order.

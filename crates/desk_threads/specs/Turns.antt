@@ -1,12 +1,13 @@
 -- What the items of a turn make of a keeper's replica, in memory.
 use Rattle.std.specs.Prelude.{◌≡◌, ℕ, Bool, false, List, [], ◌∷◌, ◌++◌, Option, Result, MatchResult}
 use Rattle.desk_types.specs.declared.refusal.Refusal.{Refusal}
-use Rattle.desk_types.specs.declared.packet.Message.{Message}
+use Rattle.desk_types.specs.declared.epoch_packet.EpochPacket.{EpochPacket}
 use Rattle.desk_mailbox.specs.declared.item.Item.{Item}
 use Rattle.desk_mailbox.specs.declared.rule.SentItem.{SentItem}
 use Rattle.desk_threads.specs.declared.answer.Answer.{Answer}
 use Rattle.desk_threads.specs.declared.item_step.ItemStep.{ItemStep}
 use Rattle.desk_threads.specs.declared.replica.Replica.{Ghosts}
+use Rattle.desk_threads.specs.EpochPackets.{packets_of_step}
 use Rattle.desk_threads.specs.Replicas.{MeetsItems}
 use Rattle.desk_threads.specs.Saving.{Saving}
 use Rattle.desk_threads.specs.Waiting.{SessionValue}
@@ -15,9 +16,9 @@ use Rattle.desk_threads.specs.Runs.{items_in}
 use Rattle.desk_threads.specs.Telling.{NotesItems}
 
 -- the packets of steps, in order
-abbrev pub packets_of_steps : List ItemStep → List (ℕ × Message)
+abbrev pub packets_of_steps : List ItemStep → List (ℕ × EpochPacket)
 packets_of_steps [] = []
-packets_of_steps (s ∷ more) = s.packets.items ++ packets_of_steps more
+packets_of_steps (s ∷ more) = packets_of_step s ++ packets_of_steps more
 
 -- the answers of steps, in order
 abbrev pub answers_of_steps : List ItemStep → List Answer
@@ -28,7 +29,7 @@ answers_of_steps (s ∷ more) = s.answers ++ answers_of_steps more
 abbrev pub MetMore : {R : Type 0} → Ghosts R → R → List ItemStep → List Item → R → List ItemStep →
     Type 0
 MetMore g owned steps list owned_now steps_now =
-    (packets : List (ℕ × Message)) × (answers : List Answer)
+    (packets : List (ℕ × EpochPacket)) × (answers : List Answer)
     × (packets_of_steps steps_now ≡ packets_of_steps steps ++ packets)
     × (answers_of_steps steps_now ≡ answers_of_steps steps ++ answers)
     × MeetsItems g owned list packets answers owned_now

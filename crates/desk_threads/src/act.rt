@@ -4,6 +4,7 @@ ghost use Rattle.std.specs.Prelude.{◌≡◌, ◌⊎◌, List, IfOk, IfErr};
 ghost use Rattle.desk_types.specs.declared.refusal.Refusal.TheVariants as refusals;
 ghost use Rattle.desk_types.specs.Refusal.{IsStoreRefusal};
 ghost use Rattle.desk_types.specs.Refusal.{HasStored};
+ghost use Rattle.desk_threads.specs.EpochPackets.{packets_of_step};
 ghost use Rattle.desk_threads.specs.SavedItems.{DoesAndSaves, DoesAndFails};
 ghost use Rattle.desk_threads.specs.Saving.{LogsGoOn, StaysSaved};
 
@@ -21,7 +22,7 @@ pub(crate) fn act_and_save<R: SavedReplica>(
 ) -> Result<ItemStep, Refusal>
     requires { R.SavedReplica.saving.is_saved replica.old }
     ensures did { IfOk result (λ step. DoesAndSaves R.Replica R.SavedReplica.saving replica.old item
-        step.packets.items step.answers replica.new) }
+        (packets_of_step step) step.answers replica.new) }
     ensures refused { IfErr result (λ r. r ≡ refusals.WantOfMemory → R.Replica.refuses replica.old replica.new) }
     ensures fault { IfErr result (λ r. (r ≡ refusals.WantOfMemory) ⊎ IsStoreRefusal r) }
     ensures first { IfErr result (λ r. (r ≡ refusals.WantOfMemory) ⊎ (r ≡ refusals.StoreFault)) }

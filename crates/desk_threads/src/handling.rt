@@ -111,8 +111,15 @@ impl<B: BoardName, R: SavedReplica> Keeper<B, R> {
             goes_on,
         );
         let answer = match outcome {
-            Ok(ItemStep { packets, answers }) => {
-                hand_all(out, packets);
+            Ok(
+                ItemStep {
+                    epoch,
+                    purpose,
+                    packets,
+                    answers,
+                },
+            ) => {
+                hand_all(out, epoch, purpose, packets);
                 waiting.hear(&answers);
                 Ok(whole)
             }

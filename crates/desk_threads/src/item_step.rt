@@ -2,9 +2,10 @@
 
 ghost use Rattle.std.specs.Prelude.{◌≡◌};
 ghost use Rattle.desk_threads.specs.Answers.{session_answers};
+ghost use Rattle.desk_threads.specs.EpochPackets.{first_steps, packets_of_step};
 
 use desk_node::Step;
-use desk_types::{Outcome, Packet};
+use desk_types::{Outcome, Packet, Purpose};
 use std::marker::Model;
 
 /// What an item answers, as the node gave it, so that no memory is taken for it. A contract sees what the sessions that
@@ -30,9 +31,12 @@ impl Model for StepAnswers {
     ghost view = { λ a. session_answers a.outcomes.items };
 }
 
-/// What comes of an item: the packets in the order of their sending, each with its receiver, and the answers.
+/// What comes of an item: the packets in the order of their sending, each with its receiver, all of one epoch and for
+/// one purpose, and the answers.
 #[derive(Drop)]
 pub struct ItemStep {
+    pub epoch: u64,
+    pub purpose: Purpose,
     pub packets: Vec<(u8, Packet)>,
     pub answers: StepAnswers,
 }
@@ -47,13 +51,15 @@ impl StepAnswers {
 }
 
 impl ItemStep {
-    /// A step of a node.
+    /// A step of a node, which is in the first epoch.
     pub(crate) fn of_node(step: Step) -> ItemStep
-        ensures packets { result.packets.items ≡ step.packets.items }
+        ensures packets { packets_of_step result ≡ first_steps step.packets.items }
         ensures answers { result.answers ≡ session_answers step.answers.items }
     {
         let Step { packets, answers } = step;
         ItemStep {
+            epoch: 0,
+            purpose: Purpose::Step,
             packets,
             answers: StepAnswers::of_node(answers),
         }

@@ -1,12 +1,13 @@
 //! A node between the items of its mailbox. It knows no threads.
 
-ghost use Rattle.std.specs.Prelude.{◌≡◌, ◌≤◌, ◌<◌, ◌==◌, if◌then◌else◌, IfOk, OnOk, OnErr};
+ghost use Rattle.std.specs.Prelude.{◌≡◌, ◌≤◌, ◌<◌, ◌==◌, if◌then◌else◌, [], true, false, IfOk, OnOk, OnErr};
 ghost use Rattle.desk_threads.specs.declared.limits.TheConstants.{SUSPECT_TICKS};
 ghost use Rattle.desk_log.specs.Entries.{IsLogPrefix};
 ghost use Rattle.desk_log.specs.Quorum.{primary};
 ghost use Rattle.desk_log.specs.SavedValue.{committed_entries};
 ghost use Rattle.desk_mailbox.specs.declared.item.Item.TheVariants as items;
 ghost use Rattle.desk_node.specs.NodeValue.{DoesStep, IsSameNode};
+ghost use Rattle.desk_threads.specs.EpochPackets.{first_steps, is_first_step};
 ghost use Rattle.desk_threads.specs.OwnedValue.{with_one_refused, DoesItem};
 ghost use Rattle.desk_threads.specs.ItemAnswers.{Answers};
 ghost use Rattle.desk_threads.specs.Keeper.{tick_event, ticks_after_tick, suspects};
@@ -15,7 +16,7 @@ use crate::limits::SUSPECT_TICKS;
 use desk_log::GroupNode;
 use desk_mailbox::Item;
 use desk_node::{Event, Node, Step};
-use desk_types::{Packet, WantOfMemory};
+use desk_types::{EpochPacket, Purpose, WantOfMemory};
 use std::alloc::Global;
 use std::marker::Model;
 
@@ -89,6 +90,24 @@ fn ticks_after_packet(from: u8, member: GroupNode, view: u64, ticks: u64) -> u64
     }
 }
 
+/// Whether a packet goes by the rules of the first epoch, the only one of the node.
+fn is_first_step(sent: &EpochPacket) -> bool
+    ensures { result ≡ is_first_step sent.now }
+{
+    sent.epoch == 0 && sent.purpose == Purpose::Step
+}
+
+/// What comes of an item at which the node does nothing.
+fn idle_step(alloc: Global) -> Step
+    ensures packets { result.packets.items ≡ [] }
+    ensures answers { result.answers.items ≡ [] }
+{
+    Step {
+        packets: Vec::new(alloc),
+        answers: Vec::new(alloc),
+    }
+}
+
 impl OwnedNode {
     /// A node at its start. Err where there is no memory for its block.
     pub fn new(alloc: Global, node: Node) -> Result<OwnedNode, WantOfMemory>
@@ -152,7 +171,7 @@ impl OwnedNode {
 
     #[tactic(auto, using(crate::proofs::Items::tick_does, crate::proofs::ItemAnswers::tick_answers))]
     fn tick(&mut self) -> Result<Step, WantOfMemory>
-        ensures did { IfOk result (λ step. DoesItem self.old items.Tick step.packets.items self.new) }
+        ensures did { IfOk result (λ step. DoesItem self.old items.Tick (first_steps step.packets.items) self.new) }
         ensures answers { IfOk result (λ step. Answers self.old items.Tick step.answers.items) }
         ensures err { OnErr result (self.new ≡ with_one_refused self.old) }
         ensures same { IsSameNode self.old.node self.new.node }
@@ -165,15 +184,23 @@ impl OwnedNode {
         Ok(step)
     }
 
+    // A step of the node at a packet by the rules of the first epoch.
     #[tactic(auto, using(crate::proofs::Items::packet_does, crate::proofs::ItemAnswers::packet_answers))]
-    fn packet(&mut self, packet: Packet) -> Result<Step, WantOfMemory>
-        ensures did { IfOk result (λ step. DoesItem self.old (items.Packet packet) step.packets.items self.new) }
-        ensures answers { IfOk result (λ step. Answers self.old (items.Packet packet) step.answers.items) }
+    fn step_packet(&mut self, sent: EpochPacket) -> Result<Step, WantOfMemory>
+        requires { is_first_step sent ≡ true }
+        ensures did { IfOk result (λ step. DoesItem self.old (items.Packet sent) (first_steps step.packets.items)
+            self.new) }
+        ensures answers { IfOk result (λ step. Answers self.old (items.Packet sent) step.answers.items) }
         ensures err { OnErr result (self.new ≡ with_one_refused self.old) }
         ensures same { IsSameNode self.old.node self.new.node }
         ensures committed { IsLogPrefix (committed_entries self.old.node.saved)
             (committed_entries self.new.node.saved) }
     {
+        let EpochPacket {
+            epoch: _,
+            purpose: _,
+            packet,
+        } = sent;
         let from = packet.message().from();
         let step = self.step(Event::Packet(packet))?;
         let view = self.node.saved().view();
@@ -181,27 +208,53 @@ impl OwnedNode {
         Ok(step)
     }
 
+    // Another packet is dropped.
+    #[tactic(auto, using(crate::proofs::Items::dropped_does, crate::proofs::ItemAnswers::dropped_answers))]
+    fn drop_packet(&self, alloc: Global, sent: EpochPacket) -> Step
+        requires { is_first_step sent ≡ false }
+        ensures did { DoesItem self.now (items.Packet sent) (first_steps result.packets.items) self.now }
+        ensures answers { Answers self.now (items.Packet sent) result.answers.items }
+    {
+        drop(sent);
+        idle_step(alloc)
+    }
+
+    #[tactic(auto, using(crate::proofs::Items::same_prefix))]
+    fn packet(&mut self, alloc: Global, sent: EpochPacket) -> Result<Step, WantOfMemory>
+        ensures did { IfOk result (λ step. DoesItem self.old (items.Packet sent) (first_steps step.packets.items)
+            self.new) }
+        ensures answers { IfOk result (λ step. Answers self.old (items.Packet sent) step.answers.items) }
+        ensures err { OnErr result (self.new ≡ with_one_refused self.old) }
+        ensures same { IsSameNode self.old.node self.new.node }
+        ensures committed { IsLogPrefix (committed_entries self.old.node.saved)
+            (committed_entries self.new.node.saved) }
+    {
+        if is_first_step(&sent) {
+            self.step_packet(sent)
+        } else {
+            Ok(self.drop_packet(alloc, sent))
+        }
+    }
+
     // At a stop the node does nothing.
     #[tactic(auto, using(crate::proofs::Items::stop_does, crate::proofs::Items::same_prefix))]
     fn stop(&self, alloc: Global) -> Step
-        ensures did { DoesItem self.now items.Stop result.packets.items self.now }
+        ensures did { DoesItem self.now items.Stop (first_steps result.packets.items) self.now }
         ensures answers { Answers self.now items.Stop result.answers.items }
         ensures same { IsSameNode self.now.node self.now.node }
         ensures committed { IsLogPrefix (committed_entries self.now.node.saved)
             (committed_entries self.now.node.saved) }
     {
-        Step {
-            packets: Vec::new(alloc),
-            answers: Vec::new(alloc),
-        }
+        idle_step(alloc)
     }
 
     /// Does the event of an item, whichever received packets say what the node held; its packets are those of the
-    /// event, and what was committed stays committed. Where memory is refused the item is counted, and nothing else
+    /// event, and what was committed stays committed. A packet of another epoch than the first, or one that is no step,
+    /// is dropped: nothing is done, and nothing goes out. Where memory is refused the item is counted, and nothing else
     /// changes.
     #[tactic(auto, using(crate::proofs::Items::request_does, crate::proofs::ItemAnswers::request_answers))]
     pub fn act(&mut self, alloc: Global, item: Item) -> Result<Step, WantOfMemory>
-        ensures did { IfOk result (λ step. DoesItem self.old item step.packets.items self.new) }
+        ensures did { IfOk result (λ step. DoesItem self.old item (first_steps step.packets.items) self.new) }
         ensures answers { IfOk result (λ step. Answers self.old item step.answers.items) }
         ensures err { OnErr result (self.new ≡ with_one_refused self.old) }
         ensures same { IsSameNode self.old.node self.new.node }
@@ -210,7 +263,7 @@ impl OwnedNode {
     {
         match item {
             Item::Request { session: _, entry } => self.step(Event::Request(entry)),
-            Item::Packet(packet) => self.packet(packet),
+            Item::Packet(sent) => self.packet(alloc, sent),
             Item::Tick => self.tick(),
             Item::Stop => Ok(self.stop(alloc)),
         }

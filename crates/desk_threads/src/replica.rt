@@ -10,12 +10,13 @@ use std::alloc::Global;
 /// for want of memory are counted.
 pub trait Replica {
     ghost use Rattle.std.specs.Prelude.{ℕ, List, IfOk, OnErr};
-    ghost use Rattle.desk_types.specs.declared.packet.Message.{Message};
+    ghost use Rattle.desk_types.specs.declared.epoch_packet.EpochPacket.{EpochPacket};
     ghost use Rattle.desk_mailbox.specs.declared.item.Item.{Item as AnItem};
     ghost use Rattle.desk_threads.specs.declared.answer.Answer.{Answer};
+    ghost use Rattle.desk_threads.specs.EpochPackets.{packets_of_step};
 
     /// The item made this of it; these packets go out for it, and this is what it answers.
-    ghost does: { Self → AnItem → List (ℕ × Message) → List Answer → Self → Type 0 };
+    ghost does: { Self → AnItem → List (ℕ × EpochPacket) → List Answer → Self → Type 0 };
 
     /// One refused item more was counted, and nothing else changed.
     ghost refuses: { Self → Self → Type 0 };
@@ -25,7 +26,7 @@ pub trait Replica {
 
     /// Does an item. Where memory is refused the item is counted.
     fn do_item(&mut self, alloc: Global, item: Item) -> Result<ItemStep, WantOfMemory>
-        ensures did { IfOk result (λ step. does self.old item step.packets.items step.answers self.new) }
+        ensures did { IfOk result (λ step. does self.old item (packets_of_step step) step.answers self.new) }
         ensures err { OnErr result (refuses self.old self.new) }
         ensures follows { follows self.old self.new };
 

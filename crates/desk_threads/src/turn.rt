@@ -73,7 +73,7 @@ fn ends_turn(item: &Item) -> bool
 {
     match item {
         Item::Request { .. } => false,
-        Item::Packet(packet) => may_carry_log(packet.message()),
+        Item::Packet(sent) => may_carry_log(sent.packet.message()),
         Item::Tick => true,
         Item::Stop => true,
     }
@@ -113,8 +113,13 @@ pub(crate) fn hand_steps<B: BoardName, O: Out>(
     ensures gave { O.Out.takes out.old (packets_of_steps steps.items) out.new }
     ensures heard { AllZip (HearsAll (answers_of_steps steps.items)) waiting.old waiting.new }
 {
-    for ItemStep { packets, answers } in steps {
-        hand_all(out, packets);
+    for ItemStep {
+        epoch,
+        purpose,
+        packets,
+        answers,
+    } in steps {
+        hand_all(out, epoch, purpose, packets);
         waiting.hear(&answers);
     }
 }

@@ -8,7 +8,8 @@ use desk_log::StateStore;
 use desk_published::{NextEntry, PrefixRule, PublishedBoard, SeatView};
 use desk_threads::{BoardName, Item, Keeper, Out, SESSIONS, SavedNode, SavedReplica, Sender};
 use desk_types::{
-    ClientId, Command, Entry, Message, Packet, Refusal, RequestNumber, UnitName, WantOfMemory,
+    ClientId, Command, Entry, EpochPacket, Message, Packet, Purpose, Refusal, RequestNumber,
+    UnitName, WantOfMemory,
 };
 use left_right::Absorb;
 use std::alloc::Global;
@@ -103,6 +104,8 @@ pub(super) enum Given {
     Answer(u64),
     /// A packet, by its bytes.
     Packet(&'static [u8]),
+    /// A packet of this epoch, and for this, by its bytes.
+    Under(u64, Purpose, &'static [u8]),
     Tick,
     Stop,
 }
@@ -121,6 +124,15 @@ pub(super) const NEXT_PREPARE: &[u8] =
     b"\x01\x01\x01\0\0\0\0\0\0\0\x01\0\0\0\0\0\0\0\x03\0\0\0\0\0\0\0\x01\
 \0\0\0\0\0\0\0\x09\0\0\0\0\0\0\0\x01\0\x0c\x0a\0\0\0\0\0\0\0\0\x02E1";
 
+/// An item that is a packet of an epoch.
+fn item_under(epoch: u64, purpose: Purpose, packet: Packet) -> Item {
+    Item::Packet(EpochPacket {
+        epoch,
+        purpose,
+        packet,
+    })
+}
+
 /// Node 1 has the entries up to this place.
 pub(super) fn answer_of_node_1(place: u64) -> Option<Item> {
     let message = Message::PrepareOk {
@@ -132,7 +144,7 @@ pub(super) fn answer_of_node_1(place: u64) -> Option<Item> {
         drop(message);
         return None;
     }
-    Some(Item::Packet(Packet::new(message)))
+    Some(item_under(0, Purpose::Step, Packet::new(message)))
 }
 
 /// Client 7 and the like of it ask for the sign-on of a unit.
@@ -149,10 +161,10 @@ fn request_of(alloc: Global, client: u64) -> Option<Item> {
     })
 }
 
-/// The packet of bytes.
-fn packet_of(alloc: Global, bytes: &[u8]) -> Option<Item> {
+/// The packet of bytes, of this epoch, and for this.
+fn packet_of(alloc: Global, epoch: u64, purpose: Purpose, bytes: &[u8]) -> Option<Item> {
     match get_packet(alloc, bytes) {
-        Ok(packet) => Some(Item::Packet(packet)),
+        Ok(packet) => Some(item_under(epoch, purpose, packet)),
         Err(_) => None,
     }
 }
@@ -161,7 +173,8 @@ fn item_once(alloc: Global, given: Given) -> Option<Item> {
     match given {
         Given::Request(client) => request_of(alloc, client),
         Given::Answer(place) => answer_of_node_1(place),
-        Given::Packet(bytes) => packet_of(alloc, bytes),
+        Given::Packet(bytes) => packet_of(alloc, 0, Purpose::Step, bytes),
+        Given::Under(epoch, purpose, bytes) => packet_of(alloc, epoch, purpose, bytes),
         Given::Tick => Some(Item::Tick),
         Given::Stop => Some(Item::Stop),
     }
@@ -189,9 +202,12 @@ pub(super) fn put_all<K: Keeps>(alloc: Global, keeper: K, items: &[Given]) -> K 
     keeper
 }
 
-/// The digits of a packet.
-fn digits_of(to: u8, message: &Message) -> u64 {
-    let (first, place) = match message {
+/// The digits of a packet; two nines where it is of a later epoch.
+fn digits_of(to: u8, sent: &EpochPacket) -> u64 {
+    if sent.epoch != 0 || sent.purpose != Purpose::Step {
+        return 99;
+    }
+    let (first, place) = match sent.packet.message() {
         Message::Prepare { place, .. } => (to, *place),
         Message::PrepareOk { place, .. } => (to, *place),
         Message::Commit { commit, .. } => (to.wrapping_add(3), *commit),
@@ -209,8 +225,8 @@ struct Count {
 impl Out for Count {
     ghost takes = { λ _ _ _. Unit {0} };
 
-    fn hand(&mut self, to: u8, packet: Packet) {
-        let digits = digits_of(to, packet.message());
+    fn hand(&mut self, to: u8, packet: EpochPacket) {
+        let digits = digits_of(to, &packet);
         drop(packet);
         let Sent { packets, order } = self.sent;
         self.sent = Sent {

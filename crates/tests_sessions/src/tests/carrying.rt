@@ -4,7 +4,7 @@ ghost use Rattle.desk_mailbox.specs.Ends.{IsSameSender};
 
 use crossbeam_channel::{Receiver, Sender as InboxSender, bounded};
 use desk_threads::{Item, Out, Sender};
-use desk_types::{Packet, WantOfMemory};
+use desk_types::{EpochPacket, WantOfMemory};
 use std::alloc::Global;
 use std::sync::Wait;
 
@@ -38,7 +38,7 @@ pub(super) struct Outbox<'a, R: Wait> {
 impl<'a, R: Wait> Out for Outbox<'a, R> {
     ghost takes = { λ _ _ _. Unit {0} };
 
-    fn hand(&mut self, to: u8, packet: Packet) {
+    fn hand(&mut self, to: u8, packet: EpochPacket) {
         if let Some(inbox) = self.inboxes.get(to as usize) {
             // where the inbox is full, the packet is lost
             drop(inbox.to.try_send(self.rt, Item::Packet(packet)));

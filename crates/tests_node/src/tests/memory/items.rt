@@ -4,6 +4,7 @@ use super::super::keeping::{Given, Keeps, Made, PREPARE, START_VIEW, Stand, give
 use super::super::near::{Heard, Serves};
 use super::over::{DrivesRows, Ended, is_done_in_memory};
 use desk_threads::limits::SUSPECT_TICKS;
+use desk_types::Purpose;
 use std::alloc::Global;
 
 /// An item, and what it comes to where there is memory.
@@ -37,10 +38,22 @@ const PRIMARY: &[ItemRow] = &[
     (Given::Request(7), 1, 0, 2, 2, 0, true),
 ];
 
+/// What node 1 sends the backup, in a later epoch.
+const LATER_EPOCH: Given = Given::Under(1, Purpose::Step, START_VIEW);
+
+/// The same as what is no step.
+const ASK: Given = Given::Under(0, Purpose::Ask, START_VIEW);
+
+const TELL: Given = Given::Under(0, Purpose::Tell, PREPARE);
+
 /// Node 1 starts a view, of which the node is a backup, and hands it an entry, twice. The node acknowledges these, and
-/// at each tick, until it suspects node 1 and asks both others for the next view.
+/// at each tick, until it suspects node 1 and asks both others for the next view. What is of a later epoch, or is no
+/// step, leaves it as it is.
 const BACKUP: &[ItemRow] = &[
+    (LATER_EPOCH, 1, 0, 0, 0, 0, false),
+    (ASK, 1, 0, 0, 0, 0, false),
     (Given::Packet(START_VIEW), 1, 1, 1, 0, 1, false),
+    (TELL, 1, 1, 1, 0, 0, false),
     (Given::Packet(PREPARE), 2, 1, 2, 1, 1, false),
     (Given::Tick, SUSPECT_TICKS - 1, 1, 2, 1, 1, false),
     (Given::Tick, 1, 2, 2, 1, 2, false),

@@ -3,11 +3,12 @@ use mathlib.Core.List.{IsPrefix}
 use Rattle.desk_types.specs.Refusal.{IsStoreRefusal, HasStored}
 use Rattle.desk_types.specs.declared.command.Entry.{Entry}
 use Rattle.desk_types.specs.declared.owner.Owner.{Owner}
-use Rattle.desk_types.specs.declared.packet.Message.{Message}
+use Rattle.desk_types.specs.declared.epoch_packet.EpochPacket.{EpochPacket}
 use Rattle.desk_types.specs.declared.refusal.Refusal.TheVariants as refusals
 use Rattle.desk_published.specs.Writer.{published}
 use Rattle.desk_published.proofs.PrefixEquations.{is_front}
 use Rattle.desk_threads.specs.declared.answer.Answer.{Answer}
+use Rattle.desk_threads.specs.EpochPackets.{packets_of_step}
 use Rattle.desk_threads.specs.ItemAnswers.{waiting_on}
 use Rattle.desk_threads.specs.SavedItems.{DoesAndSaves, DoesAndFails}
 use Rattle.desk_threads.specs.Saving.{replica_history}
@@ -109,7 +110,7 @@ returns-clause-did g c = elim c.match-outcome.branch [
       item_done g.O.Out
       (λ packets answers. DoesAndSaves g.R.Replica g.R.SavedReplica.saving c.args.self.replica c.args.item packets
       answers c.act_and_save-outcome.new.replica)
-      c.act_and_save-outcome.result (λ step. step.packets.items) (λ step. step.answers) _ c.match-outcome.answer _
+      c.act_and_save-outcome.result packets_of_step (λ step. step.answers) _ c.match-outcome.answer _
       c.args.out.now w.hand_all.new.out c.match-outcome.out w.in-Ok.is w.answer-is w.out-is
       c.act_and_save-outcome.ensures.did w.hand_all.ensures
   | in-Err w ↦ none_if_ok c.match-outcome.answer _ _ w.answer-is
@@ -152,7 +153,7 @@ returns-clause-first g c = elim c.match-outcome.branch [
 pub returns-clause-reported : goal.returns-clause-reported
 returns-clause-reported g c = elim c.match-outcome.branch [
   | in-Ok w ↦
-      reported_done c.act_and_save-outcome.result (λ step. step.packets.items) (λ step. step.answers) _
+      reported_done c.act_and_save-outcome.result packets_of_step (λ step. step.answers) _
       c.match-outcome.answer _
       (λ packets answers. DoesAndSaves g.R.Replica g.R.SavedReplica.saving c.args.self.replica c.args.item packets
       answers c.act_and_save-outcome.new.replica)
@@ -205,7 +206,7 @@ returns-clause-made g c = elim c.match-outcome.branch [
   | in-Ok w ↦ none_if_err c.match-outcome.answer _ _ w.answer-is
   | in-Err w ↦
       same_if_err c.act_and_save-outcome.result c.match-outcome.answer _
-      (λ r. r ≡ refusals.StoreFault → (packets : List (ℕ × Message)) × (answers : List Answer)
+      (λ r. r ≡ refusals.StoreFault → (packets : List (ℕ × EpochPacket)) × (answers : List Answer)
       × DoesAndFails g.R.Replica g.R.SavedReplica.saving c.args.self.replica c.args.item packets answers
       c.act_and_save-outcome.new.replica)
       w.in-Err.is w.answer-is c.act_and_save-outcome.ensures.made
