@@ -256,7 +256,7 @@ fn take_keyed<I: Read + Drop, O: Write + Drop, L: LimitedReads, R: Wait>(
 
 /// Takes the packets of who came to a port, once he is admitted where the port has a key, and gives back what takes
 /// those of the next one. The nonce is drawn for the connection; without one nobody is admitted at a port with a key.
-/// It ends at the first bytes that are no frame.
+/// It ends at the first bytes that neither a header nor a frame begins with.
 pub fn take_ends<I: Read + Drop, O: Write + Drop, L: LimitedReads, R: Wait>(
     rt: &R,
     alloc: Global,

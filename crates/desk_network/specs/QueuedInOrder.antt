@@ -4,7 +4,7 @@ use Rattle.std.proofs.Common.{length, arith, Option, None, Some, refl, sym, ap, 
 use Rattle.std.proofs.lemmas.List.{map-append}
 use Rattle.std.proofs.lemmas.List.Elements.{filter-append}
 use Rattle.std.specs.List.{filter, items_where_true}
-use Rattle.desk_types.specs.declared.packet.Message.{Message}
+use Rattle.desk_types.specs.declared.epoch_packet.EpochPacket.{EpochPacket}
 use Rattle.desk_mailbox.specs.declared.sender.Sender.{Sender}
 use Rattle.desk_peers.specs.Outgoing.{IsSubsequence}
 use Rattle.desk_peers.specs.Queues.{end_to, put_to, IsSameEnd}
@@ -12,11 +12,11 @@ use Rattle.desk_peers.proofs.Ends.{same_self}
 use Rattle.desk_peers.proofs.Subsequences.{with_last, without_last}
 use Rattle.desk_network.specs.Queued.{packets_for, HasQueued}
 
-pub queued_none : (ends : List (Option (Sender Message))) → HasQueued ends [] ends
+pub queued_none : (ends : List (Option (Sender EpochPacket))) → HasQueued ends [] ends
 queued_none ends = λ node. (same_self (end_to ends node), [], sym (append-nil (put_to ends node)), ([], refl, refl))
 
 -- an end is the same as one that is the same as its own
-same_then : (old mid new : Option (Sender Message)) → IsSameEnd old mid → IsSameEnd mid new → IsSameEnd old new
+same_then : (old mid new : Option (Sender EpochPacket)) → IsSameEnd old mid → IsSameEnd mid new → IsSameEnd old new
 same_then None None new one more = more
 same_then None (Some sender) new one more = absurd one
 same_then (Some sender) None new one more = absurd one
@@ -24,7 +24,7 @@ same_then (Some sender) (Some mid) None one more = absurd more
 same_then (Some sender) (Some mid) (Some new) one more = (more.0 ∙ one.0, more.1 ∙ one.1)
 
 -- some of these, and then some of others
-with_chosen : (chosen : List Bool) (more some all : List Message) → IsSubsequence some all →
+with_chosen : (chosen : List Bool) (more some all : List EpochPacket) → IsSubsequence some all →
     length chosen ≡ length more →
     IsSubsequence (some ++ items_where_true chosen more) (all ++ more)
 with_chosen [] [] some all h e = rw (append-nil some, append-nil all) h
@@ -38,19 +38,19 @@ with_chosen (false ∷ chosen) (m ∷ more) some all h e =
     subst (IsSubsequence (some ++ items_where_true chosen more)) (append_assoc all (m ∷ []) more)
     (with_chosen chosen more some (all ++ m ∷ []) (without_last some all m h) (omega (arith, e)))
 
-with_others : (some all few more : List Message) → IsSubsequence some all → IsSubsequence few more →
+with_others : (some all few more : List EpochPacket) → IsSubsequence some all → IsSubsequence few more →
     IsSubsequence (some ++ few) (all ++ more)
 with_others some all few more h k =
     subst (λ t. IsSubsequence (some ++ t) (all ++ more)) (sym k.2) (with_chosen k.0 more some all h k.1)
 
 -- the packets for a node, of some and then others
-packets_then : (node : ℕ) (first last : List (ℕ × Message)) →
+packets_then : (node : ℕ) (first last : List (ℕ × EpochPacket)) →
     packets_for node (first ++ last) ≡ packets_for node first ++ packets_for node last
 packets_then node first last =
     ap (map (λ p. p.1)) (filter-append (λ p. p.0 == node) first last)
     ∙ map-append (λ p. p.1) (filter (λ p. p.0 == node) first) (filter (λ p. p.0 == node) last)
 
-pub queued_then : (old mid new : List (Option (Sender Message))) (first last : List (ℕ × Message)) →
+pub queued_then : (old mid new : List (Option (Sender EpochPacket))) (first last : List (ℕ × EpochPacket)) →
     HasQueued old first mid → HasQueued mid last new → HasQueued old (first ++ last) new
 queued_then old mid new first last one more = λ node.
     let a = one node in

@@ -1,7 +1,7 @@
 //! What is announced of a node that lacks entries.
 
 use desk_events::EventLog;
-use desk_types::{Message, Packet};
+use desk_types::{EpochPacket, Message, Purpose};
 use std::sync::Wait;
 
 /// Sees by the packets of a node whether it asks for entries that it lacks.
@@ -22,9 +22,12 @@ impl<R: Wait> CatchingUp<R> {
         CatchingUp { rt, log }
     }
 
-    /// Sees a packet that goes out.
-    pub(crate) fn see(&self, packet: &Packet) {
-        if let Message::GetState { base, .. } = packet.message() {
+    /// Sees a packet that goes out, in any epoch. An ask says nothing: it may be a hint to a node that is behind.
+    pub(crate) fn see(&self, packet: &EpochPacket) {
+        if packet.purpose == Purpose::Ask {
+            return;
+        }
+        if let Message::GetState { base, .. } = packet.packet.message() {
             self.log.tell_behind(&self.rt, *base);
         }
     }

@@ -12,7 +12,7 @@ use desk_log::StateStore;
 use desk_peers::{PeerQueue, PeerQueues, open_queues};
 use desk_published::BoardName;
 use desk_threads::{Keeper, KeeperGuard, Out, SavedNode, TURN_ITEMS};
-use desk_types::{Packet, Refusal, WantOfMemory};
+use desk_types::{EpochPacket, Refusal, WantOfMemory};
 use std::alloc::Global;
 use std::sync::Wait;
 use std::thread;
@@ -51,7 +51,7 @@ impl<W: Wait + Drop> Out for QueuedPackets<W> {
 
     ghost takes = { λ old packets new. HasQueued old.queues packets new.queues };
 
-    fn hand(&mut self, to: u8, packet: Packet) {
+    fn hand(&mut self, to: u8, packet: EpochPacket) {
         self.catching_up.see(&packet);
         let _ = self.queues.put(to, packet);
     }

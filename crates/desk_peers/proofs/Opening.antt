@@ -4,7 +4,7 @@ use Rattle.std.proofs.Common.{length, Option, None, Some, refl, sym, ap, subst, 
 use Rattle.std.proofs.lemmas.Bool.{eqb-false, ne_eqb}
 use Rattle.std.proofs.lemmas.List.{map-append, length-append}
 use Rattle.std.proofs.lemmas.List.Elements.{All-nil, All-push, All-weaker}
-use Rattle.desk_types.specs.declared.packet.Message.{Message}
+use Rattle.desk_types.specs.declared.epoch_packet.EpochPacket.{EpochPacket}
 use Rattle.desk_types.specs.Lists.{others_below}
 use Rattle.desk_mailbox.specs.declared.sender.Sender.{Sender}
 use Rattle.desk_mailbox.specs.Ends.{put_by, SendsTo}
@@ -12,7 +12,7 @@ use Rattle.desk_peers.specs.declared.queues.PeerQueue.{PeerQueue}
 use Rattle.desk_peers.specs.Queues.{end_to, put_in, put_to, Feeds, IsNewQueue, AddsQueue, AddsNode}
 
 -- the queues to the other nodes below a number
-pub record IsOpen (id node : ℕ) (ends : List (Option (Sender Message))) (queues : List PeerQueue) : Type 0 where
+pub record IsOpen (id node : ℕ) (ends : List (Option (Sender EpochPacket))) (queues : List PeerQueue) : Type 0 where
   pub nodes : map (λ (q : PeerQueue). q.node) queues ≡ others_below id node
   pub own : end_to ends id ≡ None
   pub count : length ends ≡ node
@@ -22,32 +22,32 @@ pub record IsOpen (id node : ℕ) (ends : List (Option (Sender Message))) (queue
 
 -- an end stays where it is, with one more after the others
 
-end_preserved : (ends : List (Option (Sender Message))) (x : Option (Sender Message)) (k : ℕ) (s : Sender Message) →
-    end_to ends k ≡ Some s → end_to (ends ++ x ∷ []) k ≡ Some s
+end_preserved : (ends : List (Option (Sender EpochPacket))) (x : Option (Sender EpochPacket)) (k : ℕ)
+    (s : Sender EpochPacket) → end_to ends k ≡ Some s → end_to (ends ++ x ∷ []) k ≡ Some s
 end_preserved [] x k s e = absurd (let no : ⊥ = cc in no)
 end_preserved (y ∷ ends) x zero s e = e
 end_preserved (y ∷ ends) x (suc k) s e = end_preserved ends x k s e
 
-end_else : (ends : List (Option (Sender Message))) (x : Option (Sender Message)) (k : ℕ) → length ends ≢ k →
+end_else : (ends : List (Option (Sender EpochPacket))) (x : Option (Sender EpochPacket)) (k : ℕ) → length ends ≢ k →
     end_to (ends ++ x ∷ []) k ≡ end_to ends k
 end_else [] x zero n = absurd (n refl)
 end_else [] x (suc k) n = refl
 end_else (y ∷ ends) x zero n = refl
 end_else (y ∷ ends) x (suc k) n = end_else ends x k (λ e. n (ap suc e))
 
-end_last : (ends : List (Option (Sender Message))) (x : Option (Sender Message)) →
+end_last : (ends : List (Option (Sender EpochPacket))) (x : Option (Sender EpochPacket)) →
     end_to (ends ++ x ∷ []) (length ends) ≡ x
 end_last [] x = refl
 end_last (y ∷ ends) x = end_last ends x
 
-none_preserved : (ends : List (Option (Sender Message))) (k : ℕ) → end_to ends k ≡ None →
+none_preserved : (ends : List (Option (Sender EpochPacket))) (k : ℕ) → end_to ends k ≡ None →
     end_to (ends ++ None ∷ []) k ≡ None
 none_preserved [] zero e = refl
 none_preserved [] (suc k) e = refl
 none_preserved (y ∷ ends) zero e = e
 none_preserved (y ∷ ends) (suc k) e = none_preserved ends k e
 
-nothing_put : (ends : List (Option (Sender Message))) (x : Option (Sender Message)) → put_in x ≡ [] →
+nothing_put : (ends : List (Option (Sender EpochPacket))) (x : Option (Sender EpochPacket)) → put_in x ≡ [] →
     ((k : ℕ) → put_to ends k ≡ []) → (k : ℕ) → put_to (ends ++ x ∷ []) k ≡ []
 nothing_put [] x e h zero = e
 nothing_put [] x e h (suc k) = refl
@@ -64,13 +64,13 @@ opens_nothing id = record {
   new = All-nil IsNewQueue;
 }
 
-pub opens_new : (id : ℕ) (ends : List (Option (Sender Message))) (queues : List PeerQueue) → ends ≡ [] →
+pub opens_new : (id : ℕ) (ends : List (Option (Sender EpochPacket))) (queues : List PeerQueue) → ends ≡ [] →
     queues ≡ [] → IsOpen id 0 ends queues
 opens_new id ends queues e f = rw (e, f) (opens_nothing id)
 
 -- a new queue was added
-pub adds_queue : (id node : ℕ) (ends : List (Option (Sender Message))) (queues : List PeerQueue)
-    (more_ends : List (Option (Sender Message))) (more_queues : List PeerQueue) → node ≢ id →
+pub adds_queue : (id node : ℕ) (ends : List (Option (Sender EpochPacket))) (queues : List PeerQueue)
+    (more_ends : List (Option (Sender EpochPacket))) (more_queues : List PeerQueue) → node ≢ id →
     AddsQueue node ends queues more_ends more_queues → AddsNode id node ends queues more_ends more_queues
 adds_queue id node ends queues more_ends more_queues other h =
     subst (λ own. MatchBool own ((more_ends ≡ ends ++ None ∷ []) × (more_queues ≡ queues))
@@ -84,7 +84,7 @@ next_is_other : (id node : ℕ) → (node == id) ≡ false →
 next_is_other id node other = rw (add-one, other) refl
 
 -- one node more
-module _ (id node : ℕ) (ends : List (Option (Sender Message))) (queues : List PeerQueue)
+module _ (id node : ℕ) (ends : List (Option (Sender EpochPacket))) (queues : List PeerQueue)
     (h : IsOpen id node ends queues) where
   -- which is this one itself
   opens_none : (node == id) ≡ true → IsOpen id (node + 1) (ends ++ None ∷ []) queues
@@ -99,7 +99,7 @@ module _ (id node : ℕ) (ends : List (Option (Sender Message))) (queues : List 
   }
 
   -- which is another
-  opens_queue : (node == id) ≡ false → (sender : Sender Message) (queue : PeerQueue) → queue.node ≡ node →
+  opens_queue : (node == id) ≡ false → (sender : Sender EpochPacket) (queue : PeerQueue) → queue.node ≡ node →
       SendsTo queue.taker sender → put_by sender ≡ [] → IsNewQueue queue →
       IsOpen id (node + 1) (ends ++ Some sender ∷ []) (queues ++ queue ∷ [])
   opens_queue other sender queue node_is sends none new =
@@ -118,7 +118,7 @@ module _ (id node : ℕ) (ends : List (Option (Sender Message))) (queues : List 
         new = All-push IsNewQueue queues queue h.new new;
       }
 
-  opens_as : (more_ends : List (Option (Sender Message))) (more_queues : List PeerQueue) (b : Bool) →
+  opens_as : (more_ends : List (Option (Sender EpochPacket))) (more_queues : List PeerQueue) (b : Bool) →
       (node == id) ≡ b → MatchBool b ((more_ends ≡ ends ++ None ∷ []) × (more_queues ≡ queues))
       (AddsQueue node ends queues more_ends more_queues) → IsOpen id (node + 1) more_ends more_queues
   opens_as more_ends more_queues true e k =
@@ -127,6 +127,6 @@ module _ (id node : ℕ) (ends : List (Option (Sender Message))) (queues : List 
       rw (k.ends_are, k.queues_are)
       (opens_queue e k.sender k.queue k.node_is k.sends.0 k.sends.1 k.empty)
 
-  pub opens_more : (more_ends : List (Option (Sender Message))) (more_queues : List PeerQueue) →
+  pub opens_more : (more_ends : List (Option (Sender EpochPacket))) (more_queues : List PeerQueue) →
       AddsNode id node ends queues more_ends more_queues → IsOpen id (node + 1) more_ends more_queues
   opens_more more_ends more_queues k = opens_as more_ends more_queues (node == id) refl k

@@ -1,21 +1,48 @@
 -- One packet over a link.
-use Rattle.std.proofs.Common.{◌≡◌, inl, ℕ, Bool, List, Option, None, Some, MatchOption, refl, sym, subst}
-use Rattle.desk_peers.specs.Links.{LinkState, StartsEmpty, IsSentOver, IsSentOnce}
+use Rattle.std.proofs.Common.{◌≡◌, inl, inr, ℕ, Bool, true, List, [], ◌++◌, Option, None, Result, Ok, Err, OnErr}
+use Rattle.std.proofs.Common.{sym, ap, ◌∙◌, subst, append_assoc, append-nil, if◌then◌else◌}
+use Rattle.std.proofs.KnownBytes.{Appends-trans}
+use Rattle.std.specs.Io.KnownBytes.{Appends}
+use Rattle.desk_output.specs.Prefixes.{AppendsPrefix}
+use Rattle.desk_types.specs.declared.epoch_packet.EpochPacket.{EpochPacket}
+use Rattle.desk_codec.specs.Spelling.{frame_spelling}
+use Rattle.desk_peers.specs.declared.header.EpochHeader.{EpochHeader}
+use Rattle.desk_peers.specs.Headers.{header_of, header_spelling}
+use Rattle.desk_peers.specs.Links.{StartsEmpty, LinkState, text_for, IsSentOver, IsSentOnce}
 
-module _ (frame : List ℕ) (link : LinkState) (closed : Option (List (List ℕ))) (held : Option (List ℕ)) (sent : Bool)
-    (new : LinkState) (h : IsSentOver frame closed held sent new) (same : closed ≡ link.closed) where
-  -- over the open connection
-  pub sent_open : link.current ≡ Some held → IsSentOnce frame link sent new
-  sent_open e = inl (
-    held,
-    subst (λ o. MatchOption o (StartsEmpty link.closed held) (λ c. held ≡ c)) (sym e) refl,
-    subst (λ c. IsSentOver frame c held sent new) same h,
-  )
+-- what is true is true of a fault
+pub on_err : {A E : Type 0} {P : Type 0} (r : Result A E) → P → OnErr r P
+on_err (Ok a) p = tt
+on_err (Err e) p = p
 
-  -- over a new one
-  pub sent_new : link.current ≡ None → StartsEmpty link.closed held → IsSentOnce frame link sent new
-  sent_new e empty = inl (
-    held,
-    subst (λ o. MatchOption o (StartsEmpty link.closed held) (λ c. held ≡ c)) (sym e) empty,
-    subst (λ c. IsSentOver frame c held sent new) same h,
-  )
+-- what goes over a connection for a packet, of whose header another is known
+pub text_by : (is_new : Bool) (p : EpochPacket) (h : EpochHeader) → h ≡ header_of p →
+    (if is_new then header_spelling h else []) ++ frame_spelling p.packet ≡ text_for is_new p
+text_by is_new p h e = ap (λ x. (if is_new then header_spelling x else []) ++ frame_spelling p.packet) e
+
+-- a prefix of a text is one of a longer text
+pub prefix_longer : (old new : Option (List ℕ)) (a b : List ℕ) → AppendsPrefix old new a →
+    AppendsPrefix old new (a ++ b)
+prefix_longer old new a b (prefix, rest, is, wrote) =
+    (prefix, rest ++ b, ap (λ t. t ++ b) is ∙ append_assoc prefix rest b, wrote)
+
+-- a text was written, and a prefix of another
+pub prefix_after : (old mid new : Option (List ℕ)) (a b : List ℕ) → Appends old mid a → AppendsPrefix mid new b →
+    AppendsPrefix old new (a ++ b)
+prefix_after old mid new a b h (prefix, rest, is, wrote) = (
+  a ++ prefix,
+  rest,
+  ap (λ t. a ++ t) is ∙ sym (append_assoc a prefix rest),
+  Appends-trans old mid new a prefix h wrote,
+)
+
+-- all of a text was written
+pub prefix_whole : (old new : Option (List ℕ)) (a : List ℕ) → Appends old new a → AppendsPrefix old new a
+prefix_whole old new a h = (a, [], sym (append-nil a), h)
+
+-- over a new connection
+pub sent_new : (p : EpochPacket) (link : LinkState) (closed : Option (List (List ℕ))) (held : Option (List ℕ))
+    (sent : Bool) (new : LinkState) → IsSentOver (header_of p) (text_for true p) closed held sent new →
+    closed ≡ link.closed → link.current ≡ None → StartsEmpty link.closed held → IsSentOnce p link sent new
+sent_new p link closed held sent new h same none empty =
+    inr (inl (held, none, empty, subst (λ c. IsSentOver (header_of p) (text_for true p) c held sent new) same h))

@@ -3,10 +3,10 @@ use Rattle.std.proofs.Common.{◌≡◌, Bool, true, false, List, [], ◌∷◌,
 use Rattle.std.proofs.Common.{arith}
 use Rattle.std.proofs.lemmas.List.{length-append}
 use Rattle.std.specs.List.{items_where_true}
-use Rattle.desk_types.specs.declared.packet.Message.{Message}
+use Rattle.desk_types.specs.declared.epoch_packet.EpochPacket.{EpochPacket}
 use Rattle.desk_peers.specs.Outgoing.{IsSubsequence}
 
-where_true_append : (bs cs : List Bool) (xs ys : List Message) → length bs ≡ length xs →
+where_true_append : (bs cs : List Bool) (xs ys : List EpochPacket) → length bs ≡ length xs →
     items_where_true (bs ++ cs) (xs ++ ys) ≡ items_where_true bs xs ++ items_where_true cs ys
 where_true_append [] cs [] ys h = refl
 where_true_append [] cs (x ∷ xs) ys h = absurd (let no : ⊥ = omega (arith, h) in no)
@@ -16,11 +16,11 @@ where_true_append (true ∷ bs) cs (x ∷ xs) ys h =
 where_true_append (false ∷ bs) cs (x ∷ xs) ys h = where_true_append bs cs xs ys (omega (arith, h))
 
 -- the lengths stay the same
-one_longer : (bs : List Bool) (b : Bool) (xs : List Message) (x : Message) → length bs ≡ length xs →
+one_longer : (bs : List Bool) (b : Bool) (xs : List EpochPacket) (x : EpochPacket) → length bs ≡ length xs →
     length (bs ++ b ∷ []) ≡ length (xs ++ x ∷ [])
 one_longer bs b xs x h = length-append bs (b ∷ []) ∙ ap (λ n. n + 1) h ∙ sym (length-append xs (x ∷ []))
 
-pub with_last : (some all : List Message) (m : Message) → IsSubsequence some all →
+pub with_last : (some all : List EpochPacket) (m : EpochPacket) → IsSubsequence some all →
     IsSubsequence (some ++ m ∷ []) (all ++ m ∷ [])
 with_last some all m h = (
   h.0 ++ true ∷ [],
@@ -28,7 +28,7 @@ with_last some all m h = (
   ap (λ t. t ++ m ∷ []) h.2 ∙ sym (where_true_append h.0 (true ∷ []) all (m ∷ []) h.1),
 )
 
-pub without_last : (some all : List Message) (m : Message) → IsSubsequence some all →
+pub without_last : (some all : List EpochPacket) (m : EpochPacket) → IsSubsequence some all →
     IsSubsequence some (all ++ m ∷ [])
 without_last some all m h = (
   h.0 ++ false ∷ [],

@@ -1,3 +1,4 @@
+pub mod Headers
 pub mod Incoming
 pub mod Links
 pub mod Outgoing

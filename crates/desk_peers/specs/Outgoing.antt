@@ -1,39 +1,47 @@
 -- Which packets connections carried.
-use Rattle.std.specs.Prelude.{map, ◌≡◌, ⊤, ℕ, Bool, List, ◌++◌, length, Option, None, Some}
+use Rattle.std.specs.Prelude.{map, ◌≡◌, ◌≢◌, ⊤, ℕ, Bool, List, [], ◌++◌, length, Option, None, Some}
 use Rattle.std.specs.List.{flat_map, items_where_true}
 use Rattle.std.specs.Option.{option_to_list}
 use Rattle.desk_types.specs.declared.packet.Message.{Message}
 use Rattle.desk_frames.specs.Stream.{frames_spelling}
 use Rattle.desk_mailbox.specs.declared.rule.SentItem.{SentItem}
+use Rattle.desk_types.specs.declared.epoch_packet.EpochPacket.{EpochPacket}
+use Rattle.desk_peers.specs.Headers.{header_spelling}
+use Rattle.desk_peers.specs.Incoming.{under}
+use Rattle.desk_peers.specs.declared.header.EpochHeader.{EpochHeader}
 
 -- some of these, in their order
-abbrev pub IsSubsequence : List Message → List Message → Type 0
+abbrev pub IsSubsequence : List EpochPacket → List EpochPacket → Type 0
 IsSubsequence some all = (chosen : List Bool) × (length chosen ≡ length all) ×
     (some ≡ items_where_true chosen all)
 
--- What a connection carried: the frames of packets, and a prefix of one more where writing that one failed.
+-- a header, and the frames of packets after it
+abbrev pub stream_under : EpochHeader → List Message → List ℕ
+stream_under h ms = header_spelling h ++ frames_spelling ms
+
+-- What a connection carried: a header once, at its beginning, and the frames of packets under it; of the last one, and
+-- of the header before the first, a part at least where writing it failed.
 pub record Carried : Type 0 where
+  pub header : EpochHeader
   pub whole : List Message
   pub failed : Option Message
-  pub prefix : List ℕ
+  pub text : List ℕ
   pub rest : List ℕ
-  pub failed_is : frames_spelling (option_to_list failed) ≡ prefix ++ rest
-
--- its frames one after the other, and what was written of the last one
-abbrev pub carried_bytes : Carried → List ℕ
-carried_bytes c = frames_spelling c.whole ++ c.prefix
+  pub text_is : text ++ rest ≡ stream_under header (whole ++ option_to_list failed)
+  pub whole_is : whole ≢ [] → (more : List ℕ) × (text ≡ stream_under header whole ++ more)
 
 -- the packets of which it carried something
-abbrev pub packets_of : Carried → List Message
-packets_of c = c.whole ++ option_to_list c.failed
+abbrev pub packets_of : Carried → List EpochPacket
+packets_of c = map (under c.header) (c.whole ++ option_to_list c.failed)
 
 -- Further connections were closed, where that is known, which carried some of these packets, in order, each at most
--- once and over one connection.
-abbrev pub HasCarried : Option (List (List ℕ)) → List Message → Option (List (List ℕ)) → Type 0
+-- once and over one connection of its own header.
+abbrev pub HasCarried : Option (List (List ℕ)) → List EpochPacket → Option (List (List ℕ)) → Type 0
 HasCarried old packets None = ⊤
-HasCarried old packets (Some after) = (before : List (List ℕ)) × (carried : List Carried) × (old ≡ Some before)
-    × (after ≡ before ++ map carried_bytes carried) × IsSubsequence (flat_map packets_of carried) packets
+HasCarried old packets (Some after) = (before : List (List ℕ)) × (carried : List Carried)
+    × (old ≡ Some before) × (after ≡ before ++ map (λ c. c.text) carried)
+    × IsSubsequence (flat_map packets_of carried) packets
 
 -- the packets that were taken
-abbrev pub packets_in : List (SentItem Message) → List Message
+abbrev pub packets_in : List (SentItem EpochPacket) → List EpochPacket
 packets_in taken = map (λ s. s.item) taken

@@ -1,18 +1,20 @@
 //! Packets that a peer sends.
 
-ghost use Rattle.std.specs.Prelude.{◌≡◌, [], OnOk, OnErr, IfErr};
+ghost use Rattle.std.specs.Prelude.{◌≡◌, ◌≤◌, length, [], OnOk, IfErr};
 ghost use Rattle.std.specs.Io.KnownBytes.{IsAtEnd};
 ghost use Rattle.desk_types.specs.declared.refusal.Refusal.TheVariants as refusals;
-ghost use Rattle.desk_frames.specs.Received.{HasReceived, ForFirst};
-ghost use Rattle.desk_frames.specs.Stream.{Open};
+ghost use Rattle.desk_frames.specs.Received.{ForFirst};
 ghost use Rattle.desk_mailbox.specs.Ends.{put_by, IsSameSender};
-ghost use Rattle.desk_peers.specs.Incoming.{comes_from, HasPutOf, HasPutOnlyOf, HasPutOne};
-ghost use Rattle.desk_peers.specs.Incoming.{EndsEarly, IsTakeFault};
+ghost use Rattle.desk_peers.specs.Incoming.{comes_from, suits, HasPutOne, HasPutOf, HasPutOnlyOf};
+ghost use Rattle.desk_peers.specs.Incoming.{HasFramesAfter, HasTakenStream, EndsEarly, EndsFrames, IsTakeFault};
+ghost use Rattle.desk_peers.specs.declared.header.TheConstants.{MARK_BYTES};
 
+use crate::header::EpochHeader;
+use crate::start::{StreamStart, read_start, start_frames};
 use desk_codec::laws::spellings;
-use desk_frames::{FrameReader, read_packets};
+use desk_frames::read_packets;
 use desk_mailbox::{Item, Sender};
-use desk_types::{Packet, Refusal};
+use desk_types::{EpochPacket, Message, Packet, Purpose, Refusal};
 use std::alloc::Global;
 use std::io::Read;
 use std::sync::Wait;
@@ -27,21 +29,46 @@ fn comes_from(from: Option<u8>, packet: &Packet) -> bool
     }
 }
 
-/// Puts a packet into the mailbox where it comes from there. It is false where the keeper has ended.
+/// Whether a packet is of the kind that its purpose has.
+fn suits(purpose: Purpose, packet: &Packet) -> bool
+    ensures { result ≡ suits purpose packet.now }
+{
+    match purpose {
+        Purpose::Step => true,
+        Purpose::Ask => match packet.message() {
+            Message::GetState { view, .. } => *view == 0,
+            _ => false,
+        },
+        Purpose::Tell => match packet.message() {
+            Message::NewState { view, .. } => *view == 0,
+            _ => false,
+        },
+    }
+}
+
+/// Puts a packet into the mailbox where it comes from there and suits the purpose. It is false where the keeper has
+/// ended.
 fn put_packet<R: Wait>(
     rt: &R,
+    header: EpochHeader,
     from: Option<u8>,
     sender: Sender<Item>,
     packet: Packet,
 ) -> (Sender<Item>, bool)
     ensures same { IsSameSender sender result.0 }
-    ensures put { HasPutOne from (put_by sender) (put_by result.0) packet result.1 }
+    ensures put { HasPutOne header from (put_by sender) (put_by result.0) packet result.1 }
 {
-    if !comes_from(from, &packet) {
+    if !comes_from(from, &packet) || !suits(header.purpose, &packet) {
         drop(packet);
         return (sender, true);
     }
-    let (sender, outcome) = sender.put(rt, Item::Packet(packet));
+    let EpochHeader { epoch, purpose } = header;
+    let item = Item::Packet(EpochPacket {
+        epoch,
+        purpose,
+        packet,
+    });
+    let (sender, outcome) = sender.put(rt, item);
     match outcome {
         Ok(()) => (sender, true),
         Err(back) => {
@@ -51,21 +78,23 @@ fn put_packet<R: Wait>(
     }
 }
 
-/// Puts the packets that come from there into the mailbox, in order, until the keeper has ended.
+/// Puts the packets that come from there and suit the purpose into the mailbox, in order, until the keeper has ended.
 fn put_packets<R: Wait>(
     rt: &R,
+    header: EpochHeader,
     from: Option<u8>,
     sender: Sender<Item>,
     packets: Vec<Packet>,
 ) -> (Sender<Item>, Result<(), Refusal>)
     ensures same { IsSameSender sender result.0 }
-    ensures ok { OnOk result.1 (HasPutOf from (put_by sender) (put_by result.0) packets.items) }
-    ensures err { OnErr result.1 (ForFirst (HasPutOf from (put_by sender) (put_by result.0)) packets.items) }
+    ensures ok { OnOk result.1 (HasPutOf header from (put_by sender) (put_by result.0) packets.items) }
+    ensures err { IfErr result.1 (λ _.
+        ForFirst (HasPutOf header from (put_by sender) (put_by result.0)) packets.items) }
     ensures fault { IfErr result.1 (λ r. r ≡ refusals.NodeStopped) }
 {
     let mut sender = sender;
     for packet in packets {
-        let (back, put) = put_packet(rt, from, sender, packet);
+        let (back, put) = put_packet(rt, header, from, sender, packet);
         sender = back;
         if !put {
             return (sender, Err(Refusal::NodeStopped));
@@ -74,31 +103,36 @@ fn put_packets<R: Wait>(
     (sender, Ok(()))
 }
 
-/// Puts the packets that a reader of frames gives into the mailbox, to the end of the stream.
+/// Puts the packets of a connection's frames into the mailbox, to the end of the stream.
 fn take_frames<I: Read, R: Wait>(
     rt: &R,
+    alloc: Global,
     from: Option<u8>,
+    start: &StreamStart,
     reader: &mut I,
-    frames: &mut FrameReader,
     sender: Sender<Item>,
 ) -> (Sender<Item>, Result<(), Refusal>)
-    requires start { frames.old ≡ record { standing = Open []; waiting = []; reads = 0 } }
+    requires { length start.now.bytes.items ≤ MARK_BYTES }
     ensures same { IsSameSender sender result.0 }
     ensures end { OnOk result.1 (IsAtEnd (I.remaining reader.new)) }
-    ensures ok { OnOk result.1 (HasReceived (I.remaining reader.old) (I.remaining reader.new)
-        (HasPutOf from (put_by sender) (put_by result.0)) []) }
-    ensures err { IfErr result.1 (λ r. EndsEarly from r (I.remaining reader.old) (I.remaining reader.new)
-        (put_by sender) (put_by result.0)) }
+    ensures ok { OnOk result.1 (HasFramesAfter start.now.bytes.items (I.remaining reader.old) (I.remaining reader.new)
+        (HasPutOf start.now.header from (put_by sender) (put_by result.0)) []) }
+    ensures err { IfErr result.1 (λ r. EndsFrames start.now.header from r start.now.bytes.items
+        (I.remaining reader.old) (I.remaining reader.new) (put_by sender) (put_by result.0)) }
     ensures fault { IfErr result.1 IsTakeFault }
 {
     spellings();
+    let mut frames = match start_frames(alloc, start.bytes.as_slice()) {
+        Ok(frames) => frames,
+        Err(refusal) => return (sender, Err(refusal)),
+    };
     let mut sender = sender;
     'pieces: loop {
-        match read_packets(reader, frames) {
+        match read_packets(reader, &mut frames) {
             Err(refusal) => return (sender, Err(refusal)),
             Ok(None) => return (sender, Ok(())),
             Ok(Some(packets)) => {
-                let (back, outcome) = put_packets(rt, from, sender, packets);
+                let (back, outcome) = put_packets(rt, start.header, from, sender, packets);
                 sender = back;
                 if let Err(refusal) = outcome {
                     return (sender, Err(refusal));
@@ -108,12 +142,15 @@ fn take_frames<I: Read, R: Wait>(
     }
 }
 
-/// Reads a peer's stream of frames to its end, and puts each packet into the mailbox, in order; it waits while the
-/// mailbox is full. Where it is known which node sends, a packet that names another one as its sender is left out.
+/// Reads a peer's stream to its end: its header, or none where it is of the first epoch's steps, and then frames. Each
+/// packet is put into the mailbox with the header's epoch and purpose, in order; it waits while the mailbox is full.
+/// Where it is known which node sends, a packet that names another one as its sender is left out; so is a packet of an
+/// ask that is no GetState of view 0, and one of a tell that is no NewState of view 0, from which no node takes
+/// anything.
 ///
-/// It ends early where the keeper has ended (`NodeStopped`), where memory is refused (`WantOfMemory`), at bytes that no
-/// frame begins with (`FrameFault`), at a read that fails, an end inside a frame, and after 4,294,967,295 reads
-/// (`ReadFault`).
+/// It ends early where the keeper has ended (`NodeStopped`), where memory is refused (`WantOfMemory`), at bytes that
+/// neither a header nor a frame begins with (`FrameFault`), at a read that fails, an end inside the header or a frame,
+/// and after 4,294,967,295 reads of frames (`ReadFault`).
 pub fn take_packets<I: Read, R: Wait>(
     rt: &R,
     alloc: Global,
@@ -122,21 +159,19 @@ pub fn take_packets<I: Read, R: Wait>(
     sender: Sender<Item>,
 ) -> (Sender<Item>, Result<(), Refusal>)
     ensures same { IsSameSender sender result.0 }
-    // It read to the end, and put the packets of the whole stream that come from there.
+    // It read to the end, and put the packets of the whole stream that are to be put.
     ensures end { OnOk result.1 (IsAtEnd (I.remaining reader.new)) }
-    ensures ok { OnOk result.1 (HasReceived (I.remaining reader.old) (I.remaining reader.new)
-        (HasPutOf from (put_by sender) (put_by result.0)) []) }
-    // The first packets of what was read were put: all before the bad frame or the read that failed.
+    ensures ok { OnOk result.1
+        (HasTakenStream from (I.remaining reader.old) (I.remaining reader.new) (put_by sender) (put_by result.0) []) }
+    // The first packets of what was read were put: all before the bad bytes or the read that failed.
     ensures err { IfErr result.1 (λ r. EndsEarly from r (I.remaining reader.old) (I.remaining reader.new)
         (put_by sender) (put_by result.0)) }
     ensures fault { IfErr result.1 IsTakeFault }
     ensures from { HasPutOnlyOf from (put_by sender) (put_by result.0) }
 {
-    match FrameReader::new(alloc) {
-        Ok(frames) => {
-            let mut frames = frames;
-            take_frames(rt, from, reader, &mut frames, sender)
-        }
-        Err(_) => (sender, Err(Refusal::WantOfMemory)),
+    match read_start(alloc, reader) {
+        Err(refusal) => (sender, Err(refusal)),
+        Ok(None) => (sender, Ok(())),
+        Ok(Some(start)) => take_frames(rt, alloc, from, &start, reader, sender),
     }
 }

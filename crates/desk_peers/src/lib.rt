@@ -1,13 +1,18 @@
 //! Packets between the nodes of a group, over any streams of bytes: what peers send comes into the mailbox of a node's
-//! keeper, and what the node sends goes through a queue for each other node to whoever connects to that one.
+//! keeper, and what the node sends goes through a queue for each other node to whoever connects to that one. A
+//! connection is of one epoch and one purpose, which its header tells; one of the first epoch's steps has none.
 #![tactic(auto)]
 
+mod header;
 mod incoming;
+pub mod laws;
 mod link;
 mod outgoing;
 mod queues;
 mod repeats;
+mod start;
 
+pub use header::{ASK, EpochHeader, HEADER_BYTES, HEADER_MARK, MARK_BYTES, STEP, TELL};
 pub use incoming::take_packets;
 pub use link::{Connect, PeerLink};
 pub use outgoing::send_packets;

@@ -1,14 +1,16 @@
 //! A link to another node.
 
-ghost use Rattle.std.specs.Prelude.{◌≡◌, None, OnOk, OnErr};
+ghost use Rattle.std.specs.Prelude.{◌≡◌, true, [], None, OnOk, OnErr, if◌then◌else◌};
 ghost use Rattle.std.specs.Io.KnownBytes.{Appends};
-ghost use Rattle.desk_codec.specs.Spelling.{frame_spelling};
 ghost use Rattle.desk_output.specs.Prefixes.{AppendsPrefix};
-ghost use Rattle.desk_peers.specs.Links.{IsSameOrClosed, IsSentOver, IsSentOnce, IsSent, EndsLink};
+ghost use Rattle.desk_peers.specs.Headers.{header_of, header_spelling};
+ghost use Rattle.desk_peers.specs.Links.{text_for, IsSentOver, IsSentOnce, IsSent};
+ghost use Rattle.desk_peers.specs.Links.{IsReadyFor, IsUnder, EndsLink};
 
+use crate::header::{EpochHeader, write_header};
 use desk_frames::write_packet;
 use desk_output::flush;
-use desk_types::{Packet, Refusal};
+use desk_types::{EpochPacket, Refusal};
 use std::alloc::Global;
 use std::io::Write;
 use std::marker::Model;
@@ -37,10 +39,11 @@ pub trait Connect {
         ensures { Closes (closed self.old) (Self.Connection.contents connection) (closed self.new) };
 }
 
-/// A link to another node, with a connection or without one. A contract sees what its connections carried.
+/// A link to another node, with a connection of one header or without one. A contract sees the header, and what its
+/// connections carried.
 pub struct PeerLink<C: Connect> {
     connector: C,
-    connection: Option<C::Connection>,
+    connection: Option<(EpochHeader, C::Connection)>,
 }
 
 impl<C: Connect> Model for PeerLink<C> {
@@ -51,18 +54,41 @@ impl<C: Connect> Model for PeerLink<C> {
 
     ghost view = { λ l. record {
       closed = C.closed l.connector;
-      current = option_map (λ c. C.Connection.contents c) l.connection;
+      current = option_map (λ c. (c.0, C.Connection.contents c.1)) l.connection;
     } };
 }
 
-/// Writes a packet's frame, and sends on what the connection holds back.
-fn write_frame<W: Write>(alloc: Global, connection: &mut W, packet: &Packet) -> Result<(), Refusal>
-    ensures ok { OnOk result
-        (Appends (W.contents connection.old) (W.contents connection.new) (frame_spelling packet.now)) }
-    ensures err { OnErr result
-        (AppendsPrefix (W.contents connection.old) (W.contents connection.new) (frame_spelling packet.now)) }
+/// Writes what a new connection begins with.
+fn write_beginning<W: Write>(
+    connection: &mut W,
+    is_new: bool,
+    header: EpochHeader,
+) -> Result<(), Refusal>
+    ensures ok { OnOk result (Appends (W.contents connection.old) (W.contents connection.new)
+        (if is_new then header_spelling header else [])) }
+    ensures err { OnErr result (AppendsPrefix (W.contents connection.old) (W.contents connection.new)
+        (if is_new then header_spelling header else [])) }
 {
-    if let Err(fault) = write_packet(alloc, connection, packet) {
+    if !is_new {
+        return Ok(());
+    }
+    write_header(connection, header)
+}
+
+/// Writes a packet's frame, after its header where the connection is new, and sends on what the connection holds back.
+fn write_frame<W: Write>(
+    alloc: Global,
+    connection: &mut W,
+    is_new: bool,
+    packet: &EpochPacket,
+) -> Result<(), Refusal>
+    ensures ok { OnOk result
+        (Appends (W.contents connection.old) (W.contents connection.new) (text_for is_new packet.now)) }
+    ensures err { OnErr result
+        (AppendsPrefix (W.contents connection.old) (W.contents connection.new) (text_for is_new packet.now)) }
+{
+    write_beginning(connection, is_new, EpochHeader::of_packet(packet))?;
+    if let Err(fault) = write_packet(alloc, connection, &packet.packet) {
         return Err(fault.refusal);
     }
     flush(connection)
@@ -84,18 +110,19 @@ impl<C: Connect> PeerLink<C> {
         alloc: Global,
         connector: C,
         connection: C::Connection,
-        packet: &Packet,
+        is_new: bool,
+        packet: &EpochPacket,
     ) -> (PeerLink<C>, bool)
-        ensures { IsSentOver (frame_spelling packet.now) (C.closed connector) (C.Connection.contents connection)
-            result.1 result.0 }
+        ensures { IsSentOver (header_of packet.now) (text_for is_new packet.now) (C.closed connector)
+            (C.Connection.contents connection) result.1 result.0 }
     {
         let mut connector = connector;
         let mut connection = connection;
-        match write_frame(alloc, &mut connection, packet) {
+        match write_frame(alloc, &mut connection, is_new, packet) {
             Ok(()) => {
                 let link = PeerLink {
                     connector,
-                    connection: Some(connection),
+                    connection: Some((EpochHeader::of_packet(packet), connection)),
                 };
                 (link, true)
             }
@@ -106,10 +133,21 @@ impl<C: Connect> PeerLink<C> {
         }
     }
 
-    // The link for one packet more: its connection is closed where it is not to carry that.
-    fn for_next_packet(self) -> PeerLink<C>
-        ensures { IsSameOrClosed self result }
+    // Whether the open connection, if there is one, is of this header.
+    fn is_under(&self, header: EpochHeader) -> bool
+        ensures { result ≡ true → IsUnder header self.now }
     {
+        match &self.connection {
+            Some((own, _)) => *own == header,
+            None => true,
+        }
+    }
+
+    // The link for a packet of this header: its connection is closed where it is not to carry that.
+    fn for_packet(self, header: EpochHeader) -> PeerLink<C>
+        ensures { IsReadyFor header self result }
+    {
+        let is_under = self.is_under(header);
         let PeerLink {
             connector,
             connection,
@@ -120,37 +158,40 @@ impl<C: Connect> PeerLink<C> {
             connector,
             connection,
         };
-        if keeps {
+        if keeps && is_under {
             return link;
         }
         PeerLink::new(link.close())
     }
 
     // Sends a packet over the connection that is there, else over a new one.
-    fn send_once(self, alloc: Global, packet: &Packet) -> (PeerLink<C>, bool)
-        ensures { IsSentOnce (frame_spelling packet.now) self result.1 result.0 }
+    fn send_once(self, alloc: Global, packet: &EpochPacket) -> (PeerLink<C>, bool)
+        requires { IsUnder (header_of packet.now) self }
+        ensures { IsSentOnce packet.now self result.1 result.0 }
     {
         let PeerLink {
             connector,
             connection,
         } = self;
-        if let Some(connection) = connection {
-            return PeerLink::send_over(alloc, connector, connection, packet);
+        if let Some((_, connection)) = connection {
+            return PeerLink::send_over(alloc, connector, connection, false, packet);
         }
         let mut connector = connector;
         match connector.connect() {
-            Some(connection) => PeerLink::send_over(alloc, connector, connection, packet),
+            Some(connection) => PeerLink::send_over(alloc, connector, connection, true, packet),
             None => (PeerLink::new(connector), false),
         }
     }
 
-    /// Sends a packet: over the connection that is there, where that is to carry one more, else over a new one. Where
-    /// none can be made, and where writing fails or memory is refused, the packet is lost, and the answer false; a
-    /// connection that failed is closed, with a part of the packet's frame at its end at most, or all of it.
-    pub fn send(self, alloc: Global, packet: &Packet) -> (PeerLink<C>, bool)
-        ensures { IsSent (frame_spelling packet.now) self result.1 result.0 }
+    /// Sends a packet: over the connection that is there, where that is of its epoch and purpose and is to carry one
+    /// more, else over a new one, which begins with the packet's header. Where none can be made, and where writing
+    /// fails or memory is refused, the packet is lost, and the answer false; a connection that failed is closed, with a
+    /// part of the packet's frame, or of the header and the frame, at its end at most, or all of it.
+    pub fn send(self, alloc: Global, packet: &EpochPacket) -> (PeerLink<C>, bool)
+        ensures { IsSent packet.now self result.1 result.0 }
     {
-        self.for_next_packet().send_once(alloc, packet)
+        self.for_packet(EpochHeader::of_packet(packet))
+            .send_once(alloc, packet)
     }
 
     /// Closes the connection, if there is one.
@@ -162,7 +203,7 @@ impl<C: Connect> PeerLink<C> {
             connection,
         } = self;
         let mut connector = connector;
-        if let Some(connection) = connection {
+        if let Some((_, connection)) = connection {
             connector.close(connection);
         }
         connector

@@ -1,7 +1,7 @@
 //! Packets for another node.
 
 ghost use Rattle.std.specs.Prelude.{◌≡◌, ◌++◌, List};
-ghost use Rattle.desk_types.specs.declared.packet.Message.{Message};
+ghost use Rattle.desk_types.specs.declared.epoch_packet.EpochPacket.{EpochPacket};
 ghost use Rattle.desk_mailbox.specs.declared.rule.SentItem.{SentItem};
 ghost use Rattle.desk_mailbox.specs.Ends.{taken_by, IsSameTaker};
 ghost use Rattle.desk_peers.specs.Outgoing.{HasCarried, packets_in};
@@ -22,8 +22,8 @@ pub fn send_packets<C: Connect, R: Wait>(
 ) -> (PeerQueue, C)
     ensures node { result.0.node ≡ queue.node }
     ensures same { IsSameTaker queue.taker result.0.taker }
-    // What connections carried are packets that were taken off the queue, in their order.
-    ensures carried { (taken : List (SentItem Message))
+    // What connections carried are packets that were taken off the queue, in their order, each under its own header.
+    ensures carried { (taken : List (SentItem EpochPacket))
         × (taken_by result.0.taker ≡ taken_by queue.taker ++ taken)
         × HasCarried (C.closed connector) (packets_in taken) (C.closed result.1) }
 {

@@ -9,7 +9,7 @@ ghost use Rattle.desk_peers.specs.Queues.{end_to, put_in, put_to, IsSameEnd, Fee
 use crate::QUEUE_PACKETS;
 use crate::repeats::Repeats;
 use desk_mailbox::{Sender, Taker, open_mailbox};
-use desk_types::{Packet, WantOfMemory};
+use desk_types::{EpochPacket, WantOfMemory};
 use std::alloc::Global;
 use std::marker::Model;
 use std::sync::Wait;
@@ -19,13 +19,13 @@ use std::sync::Wait;
 pub struct PeerQueue {
     /// The number of that node.
     pub node: u8,
-    pub(crate) taker: Taker<Packet>,
+    pub(crate) taker: Taker<EpochPacket>,
 }
 
 /// The queues to the other nodes of a group. A contract sees their putting ends, by the numbers of the nodes.
 pub struct PeerQueues<R: Wait + Drop> {
     rt: R,
-    ends: Vec<Option<Sender<Packet>>>,
+    ends: Vec<Option<Sender<EpochPacket>>>,
     repeats: Vec<Repeats>,
 }
 
@@ -42,21 +42,21 @@ impl<R: Wait + Drop> Drop for PeerQueues<R> {
 
 impl<R: Wait + Drop> Model for PeerQueues<R> {
     ghost use Rattle.std.specs.Prelude.{List, Option};
-    ghost use Rattle.desk_types.specs.declared.packet.Message.{Message};
+    ghost use Rattle.desk_types.specs.declared.epoch_packet.EpochPacket.{EpochPacket as AnEpochPacket};
     ghost use Rattle.desk_mailbox.specs.declared.sender.Sender.{Sender};
 
-    ghost Value = { List (Option (Sender Message)) };
+    ghost Value = { List (Option (Sender AnEpochPacket)) };
 
     ghost view = { λ q. q.ends.items };
 }
 
 /// A queue with its putting end.
-fn open_queue(alloc: Global, node: u8) -> Result<(Sender<Packet>, PeerQueue), WantOfMemory>
+fn open_queue(alloc: Global, node: u8) -> Result<(Sender<EpochPacket>, PeerQueue), WantOfMemory>
     ensures node { IfOk result (λ both. both.1.node ≡ node) }
     ensures sender { IfOk result (λ both. IsNewSender both.1.taker both.0) }
     ensures new { IfOk result (λ both. IsNewQueue both.1) }
 {
-    let (taker, senders) = open_mailbox::<Packet>(alloc, QUEUE_PACKETS, 1)?;
+    let (taker, senders) = open_mailbox::<EpochPacket>(alloc, QUEUE_PACKETS, 1)?;
     let mut senders = senders;
     match senders.pop() {
         Some(sender) => Ok((sender, PeerQueue { node, taker })),
@@ -69,7 +69,7 @@ fn add_node(
     alloc: Global,
     id: u8,
     node: u8,
-    ends: &mut Vec<Option<Sender<Packet>>>,
+    ends: &mut Vec<Option<Sender<EpochPacket>>>,
     queues: &mut Vec<PeerQueue>,
 ) -> Result<(), WantOfMemory>
     ensures { OnOk result (AddsNode id node ends.old.items queues.old.items ends.new.items queues.new.items) }
@@ -122,7 +122,7 @@ pub fn open_queues<R: Wait + Drop + Copy>(
 }
 
 /// Puts a packet into a queue where there is room. It is false where the packet is lost.
-fn put_in_end<R: Wait>(rt: &R, end: &mut Option<Sender<Packet>>, packet: Packet) -> bool
+fn put_in_end<R: Wait>(rt: &R, end: &mut Option<Sender<EpochPacket>>, packet: EpochPacket) -> bool
     ensures same { IsSameEnd end.old end.new }
     ensures put { put_in end.new ≡ (if result then put_in end.old ++ packet ∷ [] else put_in end.old) }
 {
@@ -138,7 +138,7 @@ fn put_in_end<R: Wait>(rt: &R, end: &mut Option<Sender<Packet>>, packet: Packet)
 }
 
 /// Whether a packet for a node is to be put, and is no long one that came just before.
-fn is_admitted(repeats: &mut Vec<Repeats>, to: u8, packet: &Packet) -> bool {
+fn is_admitted(repeats: &mut Vec<Repeats>, to: u8, packet: &EpochPacket) -> bool {
     match repeats.get_mut(to as usize) {
         Some(repeats) => repeats.admit(packet),
         None => true,
@@ -148,9 +148,9 @@ fn is_admitted(repeats: &mut Vec<Repeats>, to: u8, packet: &Packet) -> bool {
 impl<R: Wait + Drop> PeerQueues<R> {
     /// Puts a packet into the queue to a node, without waiting. It is false where the packet is lost: the queue is
     /// full, or its taking end is gone, or the node is this one itself, or none of the group. A packet of 256 entries
-    /// or more that comes again for a node (of the same kind and view, with entries after the same place) is lost,
-    /// too, but each tenth time: what takes a tick's time to send would fill the queue otherwise.
-    pub fn put(&mut self, to: u8, packet: Packet) -> bool
+    /// or more that comes again for a node (of the same epoch, purpose, kind and view, with entries after the same
+    /// place) is lost, too, but each tenth time: what takes a tick's time to send would fill the queue otherwise.
+    pub fn put(&mut self, to: u8, packet: EpochPacket) -> bool
         ensures put { put_to self.new to ≡ (if result then put_to self.old to ++ packet ∷ [] else put_to self.old to) }
         ensures same { IsSameEnd (end_to self.old to) (end_to self.new to) }
         ensures others { (node : ℕ) → node ≢ to → end_to self.new node ≡ end_to self.old node }

@@ -1,6 +1,6 @@
 //! Long packets that come again for a node.
 
-use desk_types::{Message, Packet};
+use desk_types::{EpochPacket, Message, Purpose};
 
 /// A packet with so many entries or more is long.
 pub const LONG_PACKET_ENTRIES: usize = 256;
@@ -18,6 +18,8 @@ enum LongKind {
 /// What a long packet has in common with the same one when it is sent again.
 #[derive(Clone, Copy, PartialEq)]
 struct LongPacket {
+    epoch: u64,
+    purpose: Purpose,
     kind: LongKind,
     view: u64,
     /// The place after which its entries stand.
@@ -25,8 +27,8 @@ struct LongPacket {
 }
 
 /// What a packet is as a long one, if it is long.
-fn long_packet(packet: &Packet) -> Option<LongPacket> {
-    let (kind, view, base, entries) = match packet.message() {
+fn long_packet(packet: &EpochPacket) -> Option<LongPacket> {
+    let (kind, view, base, entries) = match packet.packet.message() {
         Message::DoViewChange { view, log, .. } => (LongKind::DoViewChange, *view, 0, log),
         Message::StartView { view, log, .. } => (LongKind::StartView, *view, 0, log),
         Message::NewState {
@@ -40,7 +42,13 @@ fn long_packet(packet: &Packet) -> Option<LongPacket> {
     if entries.as_slice().len() < LONG_PACKET_ENTRIES {
         return None;
     }
-    Some(LongPacket { kind, view, base })
+    Some(LongPacket {
+        epoch: packet.epoch,
+        purpose: packet.purpose,
+        kind,
+        view,
+        base,
+    })
 }
 
 /// The long packet that came last for a node, and how often it came again since it was put.
@@ -61,7 +69,7 @@ impl Repeats {
 
     /// Whether a packet is to be put: it is not long, or another than the long one that came last, or that one for
     /// the tenth time since it was put.
-    pub(crate) fn admit(&mut self, packet: &Packet) -> bool {
+    pub(crate) fn admit(&mut self, packet: &EpochPacket) -> bool {
         let Some(long) = long_packet(packet) else {
             return true;
         };

@@ -1,9 +1,10 @@
-//! Headers of connections between nodes over epochs: streams that are read, and what connections carry.
+//! Headers of connections between nodes: streams that are read, and what connections carry.
 
-use desk_epoch_peers::{EpochLink, PacketSink, take_epoch_packets};
-use desk_peers::Connect;
+use desk_mailbox::{Item, Sender, Taker, open_mailbox};
+use desk_peers::{Connect, PeerLink, take_packets};
 use desk_types::{EpochPacket, Message, Packet, Purpose};
 use std::alloc::Global;
+use std::sync::Wait;
 use tests_streams::{Sink, Source};
 
 /// The frame of a GetState of node 1 in view 0 after place 5.
@@ -19,52 +20,59 @@ const NO_PURPOSE: &[u8] = b"\xff\xff\xff\x03\x03\0\0\0\0\0\0\0\x01";
 
 const STEP_0: &[u8] = b"\xff\xff\xff\x03\0\0\0\0\0\0\0\0\0";
 
-/// The packets that were put.
-#[derive(Drop)]
-struct Heap {
-    packets: Vec<EpochPacket>,
-}
-
-impl PacketSink for Heap {
-    ghost put_in = { λ h. h.packets.items };
-
-    ghost same = { λ _ _. Unit {0} };
-
-    fn put(self, packet: EpochPacket) -> (Heap, bool) {
-        let Heap { mut packets } = self;
-        let put = match packets.push(packet) {
-            Ok(()) => true,
-            Err(failed) => {
-                drop(failed);
-                false
-            }
-        };
-        (Heap { packets }, put)
-    }
-
-    ghost same_still = { λ _. tt };
-
-    ghost same_further = { λ _ _ _ _ _. tt };
-}
+/// The packets that a mailbox has room for.
+const ROOM: usize = 4;
 
 /// How many packets were put, the epoch and the purpose of the last, and the number of the refusal, or 0.
 type Told = (usize, u64, Purpose, u8);
 
-/// What comes of a stream that gives so many bytes at a time.
-fn told(alloc: Global, bytes: &[u8], most: usize) -> Told {
-    let heap = Heap {
-        packets: Vec::new(alloc),
-    };
+/// Reads a stream that gives so many bytes at a time, and gives the number of the refusal, or 0.
+fn read_stream<R: Wait>(
+    rt: &R,
+    alloc: Global,
+    sender: Sender<Item>,
+    bytes: &[u8],
+    most: usize,
+) -> (Sender<Item>, u8) {
     let mut source = Source::in_pieces(bytes, most);
-    let (heap, outcome) = take_epoch_packets(alloc, Some(1), &mut source, heap);
-    let refusal = match outcome {
-        Ok(()) => 0,
-        Err(refusal) => refusal.number(),
-    };
-    match heap.packets.last() {
-        Some(last) => (heap.packets.len(), last.epoch, last.purpose, refusal),
-        None => (0, 0, Purpose::Step, refusal),
+    let (sender, outcome) = take_packets(rt, alloc, Some(1), &mut source, sender);
+    match outcome {
+        Ok(()) => (sender, 0),
+        Err(refusal) => (sender, refusal.number()),
     }
+}
+
+/// What a mailbox holds after a refusal of this number.
+fn held<R: Wait>(rt: &R, taker: Taker<Item>, refusal: u8) -> Told {
+    let mut taker = taker;
+    let mut last = (0, 0, Purpose::Step, refusal);
+    for count in 1..=ROOM {
+        let (back, taken) = taker.try_take(rt);
+        taker = back;
+        let Some(sent) = taken else {
+            return last;
+        };
+        if let Item::Packet(packet) = &sent.item {
+            last = (count, packet.epoch, packet.purpose, refusal);
+        }
+        drop(sent);
+    }
+    last
+}
+
+/// What comes of streams that give so many bytes at a time, one after the other, where those before the last are read
+/// to their ends.
+fn told<R: Wait>(rt: &R, alloc: Global, streams: &[&[u8]], most: usize) -> Option<Told> {
+    let (taker, mut senders) = open_mailbox::<Item>(alloc, ROOM, 1).ok()?;
+    let mut sender = senders.pop()?;
+    let mut refusal = 0;
+    for bytes in streams {
+        let (back, number) = read_stream(rt, alloc, sender, bytes, most);
+        sender = back;
+        refusal = number;
+    }
+    drop(sender);
+    Some(held(rt, taker, refusal))
 }
 
 fn joined(alloc: Global, parts: &[&[u8]]) -> Option<Vec<u8>> {
@@ -95,12 +103,12 @@ const STREAMS: &[Row] = &[
 ];
 
 /// Whether a row comes true of streams that give 1 to 5 bytes at a time, or all.
-fn is_told(alloc: Global, row: &Row) -> bool {
+fn is_told<R: Wait>(rt: &R, alloc: Global, row: &Row) -> bool {
     let Some(bytes) = joined(alloc, row.0) else {
         return false;
     };
     for most in [1, 2, 3, 4, 5, 100] {
-        if told(alloc, bytes.as_slice(), most) != row.1 {
+        if told(rt, alloc, &[bytes.as_slice()], most) != Some(row.1) {
             return false;
         }
     }
@@ -108,9 +116,9 @@ fn is_told(alloc: Global, row: &Row) -> bool {
 }
 
 /// The first row, counted from 1, that does not come true.
-fn first_other_stream(alloc: Global) -> Option<usize> {
+fn first_other_stream<R: Wait>(rt: &R, alloc: Global) -> Option<usize> {
     for (index, row) in STREAMS.iter().enumerate() {
-        if !is_told(alloc, row) {
+        if !is_told(rt, alloc, row) {
             return Some(index + 1);
         }
     }
@@ -120,7 +128,7 @@ fn first_other_stream(alloc: Global) -> Option<usize> {
 #[test]
 fn a_stream_is_of_its_header(rt: HostRuntime) {
     let alloc = rt.alloc();
-    assert!(rt; first_other_stream(alloc) == None);
+    assert!(rt; first_other_stream(&rt, alloc) == None);
 }
 
 /// What comes of a header and a frame that end after so many bytes.
@@ -133,13 +141,13 @@ fn cut(count: usize) -> Told {
 }
 
 /// The first count of bytes after which a header and a frame end, and something else comes of it.
-fn first_other_cut(alloc: Global) -> Option<usize> {
+fn first_other_cut<R: Wait>(rt: &R, alloc: Global) -> Option<usize> {
     let Some(bytes) = joined(alloc, &[ASK_3, FRAME]) else {
         return Some(0);
     };
     for count in 0..=bytes.len() {
         let (front, _) = bytes.as_slice().split_at(count);
-        if told(alloc, front, 100) != cut(count) {
+        if told(rt, alloc, &[front], 100) != Some(cut(count)) {
             return Some(count);
         }
     }
@@ -149,7 +157,14 @@ fn first_other_cut(alloc: Global) -> Option<usize> {
 #[test]
 fn a_stream_ends_between_its_parts(rt: HostRuntime) {
     let alloc = rt.alloc();
-    assert!(rt; first_other_cut(alloc) == None);
+    assert!(rt; first_other_cut(&rt, alloc) == None);
+}
+
+#[test]
+fn a_header_holds_for_its_connection_alone(rt: HostRuntime) {
+    let alloc = rt.alloc();
+    assert!(rt; told(&rt, alloc, &[STEP_1, FRAME], 100) == Some((1, 0, Purpose::Step, 0)));
+    assert!(rt; told(&rt, alloc, &[FRAME, ASK_3, FRAME], 100) == Some((2, 0, Purpose::Step, 0)));
 }
 
 /// Connections to a node, which are in memory.
@@ -224,7 +239,7 @@ fn sent_packets(alloc: Global) -> Option<Vec<EpochPacket>> {
 /// The connections over which the packets went.
 fn carried(alloc: Global) -> Option<Vec<Sink>> {
     let packets = sent_packets(alloc)?;
-    let mut link = EpochLink::new(Connections {
+    let mut link = PeerLink::new(Connections {
         alloc,
         closed: Vec::new(alloc),
     });

@@ -1,7 +1,9 @@
 //! Long packets that come again for a node.
 
 use desk_peers::{LONG_PACKET_ENTRIES, PeerQueue, PeerQueues, open_queues};
-use desk_types::{ClientId, Command, Entry, Items, Message, Packet, RequestNumber, UnitName};
+use desk_types::{
+    ClientId, Command, Entry, EpochPacket, Items, Message, Packet, Purpose, RequestNumber, UnitName,
+};
 use std::alloc::Global;
 use std::sync::Wait;
 use std::test::Fail;
@@ -28,6 +30,15 @@ fn log_of(alloc: Global, entries: usize) -> Option<Items<Entry>> {
     Some(log)
 }
 
+/// What differs between one offer and the next.
+#[derive(Clone, Copy, PartialEq, Eq)]
+enum Differs {
+    Nothing,
+    View,
+    Epoch,
+    Purpose,
+}
+
 /// The offer of a log of so many entries for a view.
 fn offer(alloc: Global, view: u64, entries: usize) -> Option<Packet> {
     let message = Message::DoViewChange {
@@ -44,17 +55,31 @@ fn offer(alloc: Global, view: u64, entries: usize) -> Option<Packet> {
     Some(Packet::new(message))
 }
 
-/// How many offers are put for node 0, of which one comes again and again, or each is of a view of its own.
+/// The offer that comes after so many others.
+fn offer_after(alloc: Global, time: u64, entries: usize, differs: Differs) -> Option<EpochPacket> {
+    let view = if differs == Differs::View { time } else { 0 };
+    let is_tell = differs == Differs::Purpose && time % 2 == 1;
+    Some(EpochPacket {
+        epoch: if differs == Differs::Epoch { time } else { 0 },
+        purpose: if is_tell {
+            Purpose::Tell
+        } else {
+            Purpose::Step
+        },
+        packet: offer(alloc, view.wrapping_add(1), entries)?,
+    })
+}
+
+/// How many offers are put for node 0.
 fn count_put<R: Wait + Drop>(
     alloc: Global,
     queues: &mut PeerQueues<R>,
     entries: usize,
-    is_same: bool,
+    differs: Differs,
 ) -> Option<u64> {
     let mut put: u64 = 0;
     for time in 0..TIMES {
-        let view = if is_same { 1 } else { 1 + time };
-        if queues.put(0, offer(alloc, view, entries)?) {
+        if queues.put(0, offer_after(alloc, time, entries, differs)?) {
             put = put.wrapping_add(1);
         }
     }
@@ -66,26 +91,28 @@ fn put_of<R: Wait + Drop + Copy>(
     rt: R,
     alloc: Global,
     entries: usize,
-    is_same: bool,
+    differs: Differs,
 ) -> Option<u64> {
     let (mut queues, ends) = open_queues(rt, alloc, 1, 3).ok()?;
-    let put = count_put(alloc, &mut queues, entries, is_same);
+    let put = count_put(alloc, &mut queues, entries, differs);
     drop(queues);
     drop(ends);
     put
 }
 
-const ROWS: &[(usize, bool, u64)] = &[
-    (LONG_PACKET_ENTRIES, true, 2),
-    (LONG_PACKET_ENTRIES - 1, true, TIMES),
-    (LONG_PACKET_ENTRIES, false, TIMES),
+const ROWS: &[(usize, Differs, u64)] = &[
+    (LONG_PACKET_ENTRIES, Differs::Nothing, 2),
+    (LONG_PACKET_ENTRIES - 1, Differs::Nothing, TIMES),
+    (LONG_PACKET_ENTRIES, Differs::View, TIMES),
+    (LONG_PACKET_ENTRIES, Differs::Epoch, TIMES),
+    (LONG_PACKET_ENTRIES, Differs::Purpose, TIMES),
 ];
 
 #[test]
 fn a_long_packet_that_comes_again_is_put_each_tenth_time(rt: HostRuntime) -> Result<(), Fail> {
     let alloc = rt.alloc();
-    for (entries, is_same, wanted) in ROWS {
-        assert!(rt; put_of(rt, alloc, *entries, *is_same) == Some(*wanted));
+    for (entries, differs, wanted) in ROWS {
+        assert!(rt; put_of(rt, alloc, *entries, *differs) == Some(*wanted));
     }
     Ok(())
 }

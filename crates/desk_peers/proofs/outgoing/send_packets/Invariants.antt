@@ -1,5 +1,5 @@
 use Rattle.std.proofs.Common.{◌≡◌, ◌++◌, List}
-use Rattle.desk_types.specs.declared.packet.Message.{Message}
+use Rattle.desk_types.specs.declared.epoch_packet.EpochPacket.{EpochPacket}
 use Rattle.desk_mailbox.specs.declared.rule.SentItem.{SentItem}
 use Rattle.desk_mailbox.specs.Ends.{taken_by, IsSameTaker}
 use Rattle.desk_peers.specs.Outgoing.{packets_in}
@@ -9,6 +9,6 @@ use Rattle.desk_peers.proofs.outgoing.send_packets.Given as goal
 abbrev pub invariant-loop : goal.invariant-loop
 invariant-loop g l = record {
   same : IsSameTaker l.fn.queue.taker l.taker;
-  taken : (taken : List (SentItem Message)) × (taken_by l.taker ≡ taken_by l.fn.queue.taker ++ taken)
+  taken : (taken : List (SentItem EpochPacket)) × (taken_by l.taker ≡ taken_by l.fn.queue.taker ++ taken)
       × Goes (g.C.Connect.closed l.fn.connector) (packets_in taken) l.link;
 }

@@ -1,5 +1,0 @@
-pub mod Headers
-pub mod Incoming
-pub mod Links
-pub mod Outgoing
-pub mod Sinks
