@@ -16,7 +16,8 @@ use Rattle.desk_node.specs.declared.event.Event.TheVariants as events
 use Rattle.desk_node.specs.Heard.{Says}
 use Rattle.desk_node.specs.Rules.{node_step}
 use Rattle.desk_node.specs.State.{State}
-use Rattle.desk_threads.specs.EpochPackets.{first_steps, is_first_step, goes_by_rules, packet_under}
+use Rattle.desk_types.specs.EpochPackets.{goes_by_rules, packet_under}
+use Rattle.desk_replica.specs.EpochPackets.{first_steps, is_first_step}
 use Rattle.desk_threads.specs.Keeper.{KeeperState, KeeperStep, keeper_step, message_step, idle_step, tick_event}
 use Rattle.desk_threads.specs.Keeper.{suspects, TakesItem, TakesItems}
 use Rattle.desk_threads.specs.OwnedValue.{OwnedValue, state_of, IsStateOf}

@@ -11,7 +11,7 @@ use Rattle.desk_normal.specs.Rules.{on_request, admitted_request, append_request
 use Rattle.desk_normal.specs.Rules.{on_prepare_ok, commit_acknowledged}
 use Rattle.desk_node.specs.HeldStep.{held_step}
 use Rattle.desk_node.specs.Rules.{on_packet_within, on_packet}
-use Rattle.desk_threads.specs.EpochPackets.{packet_under}
+use Rattle.desk_types.specs.EpochPackets.{packet_under}
 use Rattle.desk_threads.specs.OwnedValue.{OwnedValue}
 use Rattle.desk_threads.proofs.ItemsInOrder.{keeps_one}
 use Rattle.desk_group.specs.Group.{Keepers, Takes, WasHanded, Happens, started_group}

@@ -4,6 +4,7 @@ use Rattle.std.specs.Prelude.{Option, None, Some}
 use Rattle.std.specs.List.{filter}
 use Rattle.std.specs.Io.KnownBytes.{Consumes, IsAtEnd}
 use Rattle.desk_types.specs.Packet.{sender}
+use Rattle.desk_types.specs.EpochPackets.{packet_under}
 use Rattle.desk_types.specs.declared.packet.Message.{Message}
 use Rattle.desk_types.specs.declared.packet.Message.TheVariants.{GetState, NewState}
 use Rattle.desk_types.specs.declared.refusal.Refusal.{Refusal}
@@ -38,7 +39,7 @@ is_put h from m = comes_from from m && suits h.purpose m
 
 -- a packet of a connection of this header
 abbrev pub under : EpochHeader → Message → EpochPacket
-under h m = record { epoch = h.epoch; purpose = h.purpose; packet = m }
+under h m = packet_under h.epoch h.purpose m
 
 -- what is put for it
 abbrev pub item_under : EpochHeader → Message → Item

@@ -251,6 +251,7 @@ impl<B: BoardName> BoardWriter<B> {
     pub fn publish<R: Wait>(self, rt: &R, saved: &Saved, wanted: bool) -> (BoardWriter<B>, bool)
         requires { EqualsPrefix self.noted (committed_entries saved.now) }
         ensures noted { EqualsPrefix result.0.noted (committed_entries saved.now) }
+        ensures held { IsPrefix (published result.0.inner) result.0.noted }
         ensures grows { IsPrefix (published self.inner) (published result.0.inner) }
         ensures published { IsPrefix (published result.0.inner) (committed_entries saved.now) }
         ensures whole { IsTrue wanted → MatchBool result.1
@@ -279,6 +280,8 @@ impl<B: BoardName> BoardWriter<B> {
         requires noted { EqualsPrefix self.noted (followed_by base self.noted entries.now) }
         ensures past { base ≤ length result.0.noted }
         ensures noted { EqualsPrefix result.0.noted (followed_by base self.noted entries.now) }
+        // What is published was noted.
+        ensures held { IsPrefix (published result.0.inner) result.0.noted }
         ensures grows { IsPrefix (published self.inner) (published result.0.inner) }
         ensures published { IsPrefix (published result.0.inner) (followed_by base self.noted entries.now) }
         ensures whole { IsTrue wanted → MatchBool result.1

@@ -1,29 +1,37 @@
 -- What a replica has committed, as it goes on and is published.
-use Rattle.std.proofs.Common.{◌≡◌, ◌≤◌, ◌++◌, ◌∙◌, ℕ, zero, suc, List, [], ◌∷◌, length, take, refl, sym, ap, subst}
-use Rattle.std.proofs.Common.{append_assoc, arith}
+use Rattle.std.proofs.Common.{◌≡◌, ◌≢◌, ◌≤◌, ◌+◌, ◌++◌, ◌∙◌, ℕ, zero, suc, List, [], ◌∷◌, length, take, refl, sym, ap}
+use Rattle.std.proofs.Common.{subst, append_assoc, append-nil, arith, length-append, inl, inr, drop}
 use mathlib.Core.List.{IsPrefix}
 use Rattle.desk_types.specs.declared.command.Entry.{Entry}
 use Rattle.desk_published.specs.Writer.{EqualsPrefix, followed_by}
-use Rattle.desk_published.proofs.PrefixEquations.{front_goes_on, is_prefix, prefix_trans}
-use Rattle.desk_threads.specs.Saving.{Saving, LogsGoOn, IsNoted, replica_history}
+use Rattle.desk_published.proofs.PrefixEquations.{front_goes_on, is_front, is_prefix, length_followed, prefix_trans}
+use Rattle.desk_replica.specs.Saving.{Saving, LogsGoOn, ForgetsReported, MayForget, StaysSaved}
+use Rattle.desk_threads.specs.Noted.{IsNoted}
+use Rattle.desk_replica.specs.Saving.{after_base, entries_or, to_publish}
+use Rattle.desk_threads.specs.Noted.{replica_history}
 
 pub goes_then : {R : Type 0} (s : Saving R) (old mid new : R) → LogsGoOn s old mid →
     LogsGoOn s mid new → LogsGoOn s old new
 goes_then s old mid new a b = record {
   owner = b.owner ∙ a.owner;
   base = b.base ∙ a.base;
-  cut = prefix_trans (s.cut old) (s.cut mid) (s.cut new) a.cut b.cut;
+  after = prefix_trans (after_base s old) (after_base s mid) (after_base s new) a.after b.after;
+  next = prefix_trans (to_publish s old) (to_publish s mid) (to_publish s new) a.next b.next;
   stands = λ past is. b.stands past (a.stands past is);
 }
 
 after_front : (front xs ys : List Entry) → IsPrefix xs ys → IsPrefix (front ++ xs) (front ++ ys)
 after_front front xs ys p = (p.0, append_assoc front xs p.0 ∙ ap (λ w. front ++ w) p.1)
 
+followed_on : (b c : ℕ) (noted xs ys : List Entry) → c ≡ b → IsPrefix xs ys →
+    IsPrefix (followed_by b noted xs) (followed_by c noted ys)
+followed_on b c noted xs ys same p =
+    subst (λ n. IsPrefix (take b noted ++ xs) (take n noted ++ ys)) (sym same) (after_front (take b noted) xs ys p)
+
 history_on : {R : Type 0} (s : Saving R) (old new : R) (noted : List Entry) → LogsGoOn s old new →
     IsPrefix (replica_history s old noted) (replica_history s new noted)
 history_on s old new noted on =
-    subst (λ b. IsPrefix (replica_history s old noted) (take b noted ++ s.cut new)) (sym on.base)
-    (after_front (take (s.base old) noted) (s.cut old) (s.cut new) on.cut)
+    followed_on (s.base old) (s.base new) noted (after_base s old) (after_base s new) on.base on.after
 
 -- what begins what was committed begins it later too
 pub front_on : {R : Type 0} (s : Saving R) (old new : R) (noted front : List Entry) → LogsGoOn s old new →
@@ -36,6 +44,9 @@ pub noted_on : {R : Type 0} (s : Saving R) (old new : R) (noted : List Entry) �
 noted_on s old new noted on is = record {
   past_noted = subst (λ b. b ≤ length noted) (sym on.base) is.past_noted;
   past_is = subst (λ b. s.stands new (take b noted)) (sym on.base) (on.stands (take (s.base old) noted) is.past_is);
+  next = front_goes_on noted (followed_by (s.base old) noted (to_publish s old))
+      (followed_by (s.base new) noted (to_publish s new)) is.next
+      (followed_on (s.base old) (s.base new) noted (to_publish s old) (to_publish s new) on.base on.next);
   begins = front_on s old new noted noted on is.begins;
 }
 
@@ -49,39 +60,194 @@ take_front (suc b) (x ∷ xs) ys (y ∷ front) many few p =
     let r = take_front b xs ys front (omega (arith, many)) (omega (arith, few)) (p.0, cc p.1) in
     cc (p.1, r)
 
+-- what is to be published begins what was committed after the past
+publish_first : (reported cut : List Entry) → IsPrefix (entries_or reported cut) (reported ++ cut)
+publish_first [] cut = ([], append-nil cut)
+publish_first (entry ∷ more) cut = (cut, refl)
+
 noted_now : {R : Type 0} (s : Saving R) (r : R) (noted now : List Entry) → IsNoted s r noted →
-    s.base r ≤ length now → EqualsPrefix now (replica_history s r noted) →
+    s.base r ≤ length now → EqualsPrefix now (followed_by (s.base r) noted (to_publish s r)) →
     IsNoted s r now × (replica_history s r noted ≡ replica_history s r now)
 noted_now s r noted now of there begun =
+    let next = to_publish s r in
     let same : take (s.base r) now ≡ take (s.base r) noted =
-    take_front (s.base r) noted (s.cut r) now of.past_noted there (is_prefix now (replica_history s r noted) begun) in
-    let all : replica_history s r noted ≡ replica_history s r now = ap (λ front. front ++ s.cut r) (sym same) in (
+    take_front (s.base r) noted next now of.past_noted there
+    (is_prefix now (followed_by (s.base r) noted next) begun) in
+    let all : replica_history s r noted ≡ replica_history s r now = ap (λ front. front ++ after_base s r) (sym same) in
+    let now_next : EqualsPrefix now (followed_by (s.base r) now next) =
+    subst (λ (list : List Entry). EqualsPrefix now (list ++ next)) (sym same) begun in (
       record {
         past_noted = there;
         past_is = subst (s.stands r) (sym same) of.past_is;
-        begins = subst (λ (list : List Entry). EqualsPrefix now list) all begun;
+        next = now_next;
+        begins = front_goes_on now (followed_by (s.base r) now next) (replica_history s r now) now_next
+            (after_front (take (s.base r) now) next (after_base s r) (publish_first (s.reported r) (s.cut r)));
       },
       all,
     )
 
-given_is : {R : Type 0} (s : Saving R) (r : R) (b : ℕ) (cut noted : List Entry) → b ≡ s.base r → cut ≡ s.cut r →
-    followed_by b noted cut ≡ replica_history s r noted
-given_is s r b cut noted at is = ap (λ n. take n noted ++ cut) at ∙ ap (λ c. take (s.base r) noted ++ c) is
+given_is : {R : Type 0} (s : Saving R) (r : R) (b : ℕ) (list next noted : List Entry) → b ≡ s.base r → list ≡ next →
+    followed_by b noted list ≡ followed_by (s.base r) noted next
+given_is s r b list next noted at is = ap (λ n. take n noted ++ list) at ∙ ap (λ c. take (s.base r) noted ++ c) is
 
 -- what a publish asks for
-pub before_publish : {R : Type 0} (s : Saving R) (r : R) (b : ℕ) (cut noted : List Entry) → b ≡ s.base r →
-    cut ≡ s.cut r → IsNoted s r noted → (b ≤ length noted) × EqualsPrefix noted (followed_by b noted cut)
-before_publish s r b cut noted at is of = (
+pub before_publish : {R : Type 0} (s : Saving R) (r : R) (b : ℕ) (list noted : List Entry) → b ≡ s.base r →
+    list ≡ to_publish s r → IsNoted s r noted → (b ≤ length noted) × EqualsPrefix noted (followed_by b noted list)
+before_publish s r b list noted at is of = (
   subst (λ n. n ≤ length noted) (sym at) of.past_noted,
-  subst (λ (list : List Entry). EqualsPrefix noted list) (sym (given_is s r b cut noted at is)) of.begins,
+  subst (λ (all : List Entry). EqualsPrefix noted all) (sym (given_is s r b list (to_publish s r) noted at is)) of.next,
 )
 
 -- and what it leaves
-pub after_publish : {R : Type 0} (s : Saving R) (r : R) (b : ℕ) (cut noted now : List Entry) → b ≡ s.base r →
-    cut ≡ s.cut r → IsNoted s r noted → b ≤ length now → EqualsPrefix now (followed_by b noted cut) →
-    IsNoted s r now × (followed_by b noted cut ≡ replica_history s r now)
-after_publish s r b cut noted now at is of there begun =
-    let given = given_is s r b cut noted at is in
-    let n = noted_now s r noted now of (subst (λ k. k ≤ length now) at there)
-    (subst (λ (list : List Entry). EqualsPrefix now list) given begun) in
-    (n.0, given ∙ n.1)
+pub after_publish : {R : Type 0} (s : Saving R) (r : R) (b : ℕ) (list noted now : List Entry) → b ≡ s.base r →
+    list ≡ to_publish s r → IsNoted s r noted → b ≤ length now → EqualsPrefix now (followed_by b noted list) →
+    IsNoted s r now × (replica_history s r noted ≡ replica_history s r now)
+after_publish s r b list noted now at is of there begun =
+    noted_now s r noted now of (subst (λ k. k ≤ length now) at there)
+    (subst (λ (all : List Entry). EqualsPrefix now all) (given_is s r b list (to_publish s r) noted at is) begun)
+
+entries_first : (reported cut : List Entry) → length reported ≢ 0 → reported ≡ entries_or reported cut
+entries_first [] cut some = absurd (some refl)
+entries_first (entry ∷ more) cut some = refl
+
+-- a log that was reported is to be published where it has entries
+pub reported_next : {R : Type 0} (s : Saving R) (r : R) (list : List Entry) → list ≡ s.reported r → length list ≢ 0 →
+    list ≡ to_publish s r
+reported_next s r list is some = is ∙ entries_first (s.reported r) (s.cut r) (λ none. some (ap length is ∙ none))
+
+no_entries : (list : List Entry) → length list ≡ 0 → list ≡ []
+no_entries [] none = refl
+no_entries (entry ∷ more) none = absurd (omega (arith, none))
+
+-- and else what was committed after it
+pub cut_next : {R : Type 0} (s : Saving R) (r : R) (list noted : List Entry) (b : ℕ) → s.reported r ≡ [] →
+    list ≡ s.cut r → b ≡ s.base r → (list ≡ to_publish s r) × (followed_by b noted list ≡ replica_history s r noted)
+cut_next s r list noted b none is at = (
+  is ∙ ap (λ (reported : List Entry). entries_or reported (s.cut r)) (sym none),
+  ap (λ n. take n noted ++ list) at ∙ ap (λ c. take (s.base r) noted ++ c) is
+      ∙ ap (λ (reported : List Entry). take (s.base r) noted ++ (reported ++ s.cut r)) (sym none),
+)
+
+-- Where all of the log that was reported is noted, it is one of the past from then on.
+forgets_noted : {R : Type 0} (s : Saving R) (old new : R) (noted now : List Entry) → ForgetsReported s old new →
+    IsNoted s old noted → IsPrefix (followed_by (s.base old) noted (s.reported old)) now →
+    EqualsPrefix now (replica_history s old noted) →
+    IsNoted s new now × (replica_history s old noted ≡ replica_history s new now)
+forgets_noted s old new noted now f of p begun =
+    let front : List Entry = followed_by (s.base old) noted (s.reported old) in
+    let count : length front ≡ s.base new =
+    length_followed (s.base old) noted (s.reported old) of.past_noted ∙ sym f.base in
+    let same : front ≡ take (s.base new) now = is_front front now p ∙ ap (λ n. take n now) count in
+    let none : s.cut new ≡ after_base s new = ap (λ (list : List Entry). list ++ s.cut new) (sym f.reported) in
+    let next : s.cut new ≡ to_publish s new =
+    ap (λ (list : List Entry). entries_or list (s.cut new)) (sym f.reported) in
+    let all : replica_history s old noted ≡ take (s.base new) now ++ s.cut new =
+    sym (append_assoc (take (s.base old) noted) (s.reported old) (s.cut old))
+    ∙ ap (λ (list : List Entry). list ++ s.cut old) same
+    ∙ ap (λ (list : List Entry). take (s.base new) now ++ list) (sym f.cut) in
+    let history : replica_history s old noted ≡ replica_history s new now =
+    all ∙ ap (λ (list : List Entry). take (s.base new) now ++ list) none in (
+      record {
+        past_noted = omega (arith, count, ap length p.1, length-append front p.0);
+        past_is = subst (s.stands new) same (f.stands (take (s.base old) noted) of.past_is);
+        next = subst (λ (list : List Entry). EqualsPrefix now list)
+            (all ∙ ap (λ (list : List Entry). take (s.base new) now ++ list) next) begun;
+        begins = subst (λ (list : List Entry). EqualsPrefix now list) history begun;
+      },
+      history,
+    )
+
+take_drop : (n : ℕ) (xs : List Entry) → take n xs ++ drop n xs ≡ xs
+take_drop zero xs = refl
+take_drop (suc n) [] = refl
+take_drop (suc n) (x ∷ xs) = ap (λ w. x ∷ w) (take_drop n xs)
+
+-- nothing was reported
+pub forgets_nothing : {R : Type 0} (s : Saving R) (old new : R) (list noted : List Entry) → list ≡ s.reported old →
+    length list ≡ 0 → ForgetsReported s old new → IsNoted s old noted →
+    IsNoted s new noted × (replica_history s old noted ≡ replica_history s new noted)
+forgets_nothing s old new list noted is none f of =
+    let empty : s.reported old ≡ [] = sym is ∙ no_entries list none in
+    forgets_noted s old new noted noted f of (
+      drop (s.base old) noted,
+      ap (λ (list : List Entry). (take (s.base old) noted ++ list) ++ drop (s.base old) noted) empty
+          ∙ ap (λ (list : List Entry). list ++ drop (s.base old) noted) (append-nil (take (s.base old) noted))
+          ∙ take_drop (s.base old) noted,
+    )
+    of.begins
+
+-- all of what was reported is published
+pub forgets_published : {R : Type 0} (s : Saving R) (old new : R) (b : ℕ) (list noted now shown : List Entry) →
+    b ≡ s.base old → list ≡ s.reported old → ForgetsReported s old new → IsNoted s old noted →
+    IsNoted s old now → replica_history s old noted ≡ replica_history s old now → shown ≡ followed_by b noted list →
+    IsPrefix shown now → IsNoted s new now × (replica_history s old now ≡ replica_history s new now)
+forgets_published s old new b list noted now shown at is f of of_now history whole held =
+    let all : shown ≡ followed_by (s.base old) noted (s.reported old) =
+    whole ∙ given_is s old b list (s.reported old) noted at is in
+    let n = forgets_noted s old new noted now f of (subst (λ (w : List Entry). IsPrefix w now) all held)
+    (subst (λ (w : List Entry). EqualsPrefix now w) (sym history) of_now.begins) in
+    (n.0, sym history ∙ n.1)
+
+-- what is a prefix of a list and is that list with more is that list
+no_more : (xs front more : List Entry) → IsPrefix xs front → xs ≡ front ++ more → xs ≡ front
+no_more xs front [] p e = e ∙ append-nil front
+no_more xs front (x ∷ more) p e = absurd (omega (
+  arith,
+  ap length p.1,
+  length-append xs p.0,
+  ap length e,
+  length-append front (x ∷ more),
+))
+
+-- where not all of a log that was reported is published, not all is that was committed
+pub reported_lags : {R : Type 0} (s : Saving R) (r : R) (b : ℕ) (list noted now shown : List Entry) → b ≡ s.base r →
+    list ≡ s.reported r → replica_history s r noted ≡ replica_history s r now →
+    IsPrefix shown (followed_by b noted list) → shown ≢ followed_by b noted list → shown ≢ replica_history s r now
+reported_lags s r b list noted now shown at is history within missing = λ all.
+    let front = followed_by b noted list in
+    let given : front ≡ followed_by (s.base r) noted (s.reported r) = given_is s r b list (s.reported r) noted at is in
+    missing (no_more shown front (s.cut r) within
+    (all ∙ sym history ∙ sym (append_assoc (take (s.base r) noted) (s.reported r) (s.cut r))
+    ∙ ap (λ (w : List Entry). w ++ s.cut r) (sym given)))
+
+-- what is published of a log that was reported is of what was committed
+pub reported_within : {R : Type 0} (s : Saving R) (r : R) (b : ℕ) (list noted now shown : List Entry) → b ≡ s.base r →
+    list ≡ s.reported r → replica_history s r noted ≡ replica_history s r now →
+    IsPrefix shown (followed_by b noted list) → IsPrefix shown (replica_history s r now)
+reported_within s r b list noted now shown at is history within =
+    let given = given_is s r b list (s.reported r) noted at is in
+    prefix_trans shown (followed_by b noted list) (replica_history s r now) within
+    (subst (λ (w : List Entry). IsPrefix (followed_by b noted list) w) history
+    (subst (λ (w : List Entry). IsPrefix w (replica_history s r noted)) (sym given)
+    (s.cut r, append_assoc (take (s.base r) noted) (s.reported r) (s.cut r))))
+
+-- a log that was reported and published is one of the past
+abbrev pub ForgottenOn : {R : Type 0} → Saving R → Type 0
+ForgottenOn {R} s = (old new : R) → s.forgets old new → ForgetsReported s old new
+
+-- After it forgot a log that was reported it is the same member,
+pub forget_owner : {R : Type 0} (s : Saving R) → ForgottenOn s → (old new : R) → MayForget s old new →
+    s.owner new ≡ s.owner old
+forget_owner s forgotten old new (inl same) = ap s.owner same
+forget_owner s forgotten old new (inr forgets) = (forgotten old new forgets).owner
+
+-- its state is the one that was saved last,
+pub forget_saved : {R : Type 0} (s : Saving R) → ForgottenOn s → (old new : R) → MayForget s old new →
+    s.is_saved old → s.is_saved new
+forget_saved s forgotten old new (inl same) is = subst s.is_saved (sym same) is
+forget_saved s forgotten old new (inr forgets) is = (forgotten old new forgets).saved is
+
+-- and what its store is to keep stood.
+pub forget_keeps : {R : Type 0} (s : Saving R) → ((a : R) → s.keeps a a) → ForgottenOn s → (old new : R) →
+    MayForget s old new → s.keeps old new
+forget_keeps s still forgotten old new (inl same) = subst (s.keeps old) (sym same) (still old)
+forget_keeps s still forgotten old new (inr forgets) = (forgotten old new forgets).keeps
+
+-- Both stand after a time when they stood over the one before.
+pub forget_stays : {R : Type 0} (s : Saving R) → ((a b c : R) → s.keeps a b → s.keeps b c → s.keeps a c) →
+    ((a : R) → s.keeps a a) → ForgottenOn s → (old mid new : R) → MayForget s mid new → StaysSaved s old mid →
+    StaysSaved s old new
+forget_stays s further still forgotten old mid new forgets stays = (
+  forget_saved s forgotten mid new forgets stays.0,
+  further old mid new stays.1 (forget_keeps s still forgotten mid new forgets),
+)

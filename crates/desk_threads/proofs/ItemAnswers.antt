@@ -8,7 +8,7 @@ use Rattle.desk_mailbox.specs.declared.item.Item.TheVariants as items
 use Rattle.desk_node.specs.declared.event.Event.TheVariants as events
 use Rattle.desk_node.specs.NodeValue.{NodeValue, DoesStep}
 use Rattle.desk_node.specs.Rules.{node_step}
-use Rattle.desk_threads.specs.EpochPackets.{is_first_step}
+use Rattle.desk_replica.specs.EpochPackets.{is_first_step}
 use Rattle.desk_threads.specs.Keeper.{suspects, tick_event}
 use Rattle.desk_threads.specs.OwnedValue.{OwnedValue}
 use Rattle.desk_threads.specs.ItemAnswers.{Answers}

@@ -14,7 +14,7 @@ use Rattle.desk_node.specs.Heard.{Says}
 use Rattle.desk_node.specs.NodeValue.{DoesStep}
 use Rattle.desk_node.specs.Rules.{node_step}
 use Rattle.desk_node.specs.State.{State}
-use Rattle.desk_threads.specs.EpochPackets.{first_steps, is_first_step}
+use Rattle.desk_replica.specs.EpochPackets.{first_steps, is_first_step}
 use Rattle.desk_threads.specs.Keeper.{KeeperState, with_ticks, suspects, tick_event, ticks_after_tick}
 use Rattle.desk_threads.specs.Keeper.{ticks_after_packet, message_step, idle_step}
 use Rattle.desk_threads.specs.OwnedValue.{OwnedValue, state_of, IsStepTo, DoesItem}

@@ -5,10 +5,10 @@ use Rattle.desk_types.specs.declared.epoch_packet.EpochPacket.{EpochPacket}
 use Rattle.desk_mailbox.specs.declared.item.Item.{Item}
 use Rattle.desk_mailbox.specs.declared.rule.SentItem.{SentItem}
 use Rattle.desk_threads.specs.declared.handing.Out.{Ghosts}
-use Rattle.desk_threads.specs.declared.replica.Replica.{Ghosts as ReplicaGhosts}
+use Rattle.desk_replica.specs.declared.replica.Replica.{Ghosts as ReplicaGhosts}
 use Rattle.desk_threads.specs.Runs.{items_in, Ran}
 use Rattle.desk_threads.specs.SavedItems.{MeetsAndSaves}
-use Rattle.desk_threads.specs.Saving.{Saving, StaysSaved}
+use Rattle.desk_replica.specs.Saving.{Saving, StaysSaved}
 use Rattle.desk_threads.proofs.SavedItems.{saves_none, saves_then}
 
 pub items_then : (xs ys : List (SentItem Item)) → items_in (xs ++ ys) ≡ items_in xs ++ items_in ys

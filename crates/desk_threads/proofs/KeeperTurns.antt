@@ -9,7 +9,7 @@ use Rattle.desk_mailbox.specs.declared.item.Item.TheVariants as items
 use Rattle.desk_mailbox.specs.declared.rule.SentItem.{SentItem}
 use Rattle.desk_threads.specs.declared.handing.Out.{Ghosts}
 use Rattle.desk_threads.specs.Waiting.{SessionValue}
-use Rattle.desk_threads.specs.declared.replica.Replica.{Ghosts as ReplicaGhosts}
+use Rattle.desk_replica.specs.declared.replica.Replica.{Ghosts as ReplicaGhosts}
 use Rattle.desk_threads.specs.Runs.{items_in, Ran, RanToLast, Stand, stand, TakesTurn, TakesTurns, RanInTurns}
 use Rattle.desk_threads.specs.Runs.{EndsInStop, TookStop, HasRunOut, IsStopped, RanToEnd, IsUnsaved}
 use Rattle.desk_threads.specs.Runs.{TakesLast, RanToTurn}
@@ -17,9 +17,10 @@ use Rattle.desk_threads.specs.EndingItems.{OnlyLastEnds}
 use Rattle.desk_threads.specs.Telling.{TellsOfStop}
 use Rattle.desk_threads.proofs.EndingItems.{last_alone}
 use Rattle.desk_threads.specs.SavedItems.{MeetsAndFails}
-use Rattle.desk_threads.specs.Saving.{Saving, StaysSaved}
+use Rattle.desk_replica.specs.Saving.{Saving, StaysSaved}
 use Rattle.desk_threads.proofs.KeeperRuns.{TakesNone, TakesThen, KeepsStill, KeepsFurther, items_then, ran_none}
 use Rattle.desk_threads.proofs.KeeperRuns.{ran_then}
+use Rattle.desk_threads.proofs.Histories.{ForgottenOn, forget_saved, forget_keeps}
 use Rattle.desk_threads.proofs.SavedItems.{turn_saves}
 
 -- all that is in turns, one after the other
@@ -141,7 +142,8 @@ takes_ran g h s none then most (x ∷ xs) b old new (mid, one, more) =
       one.packets,
       one.answers,
       refl,
-      turn_saves h s old.replica one.made mid.replica (items_in x) one.packets one.answers one.some one.does one.saved,
+      turn_saves h s old.replica one.made mid.replica (items_in x) one.packets one.answers one.some one.does
+          (one.stored, one.saved, one.forgets),
       one.gave,
     )
     (takes_ran g h s none then most xs (b ++ x) mid new more))
@@ -237,27 +239,35 @@ refused_last h s most b a x old new some taken same silent still reported = reco
 abbrev KeepsBy : {R : Type 0} → Saving R → (R → R → Type 0) → Type 0
 KeepsBy {R} s by = (a b : R) → by a b → s.keeps a b
 
+-- and so by a turn
+turn_keeps : {O R : Type 0} (g : Ghosts O) (h : ReplicaGhosts R) (s : Saving R) → KeepsFurther s → KeepsStill s →
+    KeepsBy s h.follows → KeepsBy s s.saves → ForgottenOn s → (most : ℕ) (turn : List Item) (old new : Stand O R) →
+    TakesTurn g h s most turn old new → s.keeps old.replica new.replica
+turn_keeps g h s further still followed saved forgotten most turn old new t =
+    further old.replica t.stored new.replica
+    (further old.replica t.made t.stored (followed old.replica t.made t.follows) (saved t.made t.stored t.saved))
+    (forget_keeps s still forgotten t.stored new.replica t.forgets)
+
 -- a turn leaves the replica saved
 pub turn_stays : {O R : Type 0} (g : Ghosts O) (h : ReplicaGhosts R) (s : Saving R) →
-    ((a b : R) → s.saves a b → s.is_saved b) → KeepsFurther s → KeepsBy s h.follows → KeepsBy s s.saves → (most : ℕ)
-    (turn : List Item) (old new : Stand O R) → TakesTurn g h s most turn old new →
-    StaysSaved s old.replica new.replica
-turn_stays g h s last further followed saved most turn old new t = (
-  last t.made new.replica t.saved,
-  further old.replica t.made new.replica (followed old.replica t.made t.follows) (saved t.made new.replica t.saved),
+    ((a b : R) → s.saves a b → s.is_saved b) → KeepsFurther s → KeepsStill s → KeepsBy s h.follows →
+    KeepsBy s s.saves → ForgottenOn s → (most : ℕ) (turn : List Item) (old new : Stand O R) →
+    TakesTurn g h s most turn old new → StaysSaved s old.replica new.replica
+turn_stays g h s last further still followed saved forgotten most turn old new t = (
+  forget_saved s forgotten t.stored new.replica t.forgets (last t.made t.stored t.saved),
+  turn_keeps g h s further still followed saved forgotten most turn old new t,
 )
 
 -- what the store is to keep stood through all turns
 takes_keep : {O R : Type 0} (g : Ghosts O) (h : ReplicaGhosts R) (s : Saving R) → KeepsStill s → KeepsFurther s →
-    KeepsBy s h.follows → KeepsBy s s.saves → (most : ℕ) (turns : List (List (SentItem Item))) (old new : Stand O R) →
-    TakesTurns g h s most turns old new → s.keeps old.replica new.replica
-takes_keep g h s still further followed saved most [] old new e =
+    KeepsBy s h.follows → KeepsBy s s.saves → ForgottenOn s → (most : ℕ) (turns : List (List (SentItem Item)))
+    (old new : Stand O R) → TakesTurns g h s most turns old new → s.keeps old.replica new.replica
+takes_keep g h s still further followed saved forgotten most [] old new e =
     subst (λ (w : Stand _ _). s.keeps old.replica w.replica) e (still old.replica)
-takes_keep g h s still further followed saved most (x ∷ xs) old new (mid, one, more) =
+takes_keep g h s still further followed saved forgotten most (x ∷ xs) old new (mid, one, more) =
     further old.replica mid.replica new.replica
-    (further old.replica one.made mid.replica (followed old.replica one.made one.follows)
-    (saved one.made mid.replica one.saved))
-    (takes_keep g h s still further followed saved most xs mid new more)
+    (turn_keeps g h s further still followed saved forgotten most (items_in x) old mid one)
+    (takes_keep g h s still further followed saved forgotten most xs mid new more)
 
 -- a list of one
 one_only : (xs : List (SentItem Item)) → 0 < length xs → length xs ≤ 1 → (x : SentItem Item) × (xs ≡ x ∷ [])
@@ -267,10 +277,10 @@ one_only (x ∷ y ∷ more) some few = absurd (omega (arith, few))
 
 -- where a turn is one item, it is the last item that was not saved
 pub turn_to_last : {O R : Type 0} (g : Ghosts O) (h : ReplicaGhosts R) (s : Saving R) → TakesNone g → TakesThen g →
-    KeepsStill s → KeepsFurther s → KeepsBy s h.follows → KeepsBy s s.saves → (fault : Refusal)
+    KeepsStill s → KeepsFurther s → KeepsBy s h.follows → KeepsBy s s.saves → ForgottenOn s → (fault : Refusal)
     (b a : List (SentItem Item)) (old new : Stand O R) → RanToTurn g h s 1 fault b old a new →
     RanToLast g h s fault b old a new
-turn_to_last g h s none then still further followed saved fault b a old new (before, end, ran, last) =
+turn_to_last g h s none then still further followed saved forgotten fault b a old new (before, end, ran, last) =
     let one = one_only last.turn last.some last.few in (
       before,
       one.0,
@@ -278,6 +288,6 @@ turn_to_last g h s none then still further followed saved fault b a old new (bef
       last.taken_is ∙ ap (λ w. before ++ w) one.1,
       subst (λ w. Ran g h s b old.replica old.out before end.replica w) (sym last.silent)
           (turns_ran g h s none then 1 b before old end ran),
-      takes_keep g h s still further followed saved 1 ran.0 old end ran.2,
+      takes_keep g h s still further followed saved forgotten 1 ran.0 old end ran.2,
       subst (λ w. IsUnsaved h s fault (items_in w) end.replica new.replica) one.1 last.unsaved,
     )

@@ -3,8 +3,8 @@ use Rattle.std.proofs.Common.{◌≡◌, ◌++◌, ℕ, List, [], ◌∷◌, ref
 use Rattle.std.proofs.Common.{append_assoc, append-nil}
 use Rattle.desk_types.specs.declared.epoch_packet.EpochPacket.{EpochPacket}
 use Rattle.desk_mailbox.specs.declared.item.Item.{Item}
-use Rattle.desk_threads.specs.declared.answer.Answer.{Answer}
-use Rattle.desk_threads.specs.declared.replica.Replica.{Ghosts}
+use Rattle.desk_replica.specs.declared.answer.Answer.{Answer}
+use Rattle.desk_replica.specs.declared.replica.Replica.{Ghosts}
 use Rattle.desk_threads.specs.OwnedValue.{OwnedValue, DoesItems, with_one_refused}
 use Rattle.desk_threads.specs.NodeInOrder.{node_still}
 use Rattle.desk_threads.specs.NodeReplica.{NodeDoes, NodeFollows, NodeRefuses}

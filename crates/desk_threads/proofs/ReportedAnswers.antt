@@ -1,5 +1,5 @@
 -- Whom a keeper tells what, by the outcome of an item.
-use Rattle.std.proofs.Common.{◌≡◌, ℕ, List, Bool, true, false, map, ap, subst, ◌∙◌}
+use Rattle.std.proofs.Common.{◌≡◌, ℕ, List, Bool, true, false, map, ap, sym, subst, ◌∙◌}
 use Rattle.std.proofs.Common.{Result, Ok, Err, IfOk, IfErr}
 use Rattle.std.specs.List.{AllZip}
 use Rattle.desk_types.specs.declared.command.Entry.{Entry}
@@ -7,11 +7,11 @@ use Rattle.desk_types.specs.declared.epoch_packet.EpochPacket.{EpochPacket}
 use Rattle.desk_types.specs.declared.refusal.Refusal.{Refusal}
 use Rattle.desk_types.specs.declared.refusal.Refusal.TheVariants as refusals
 use Rattle.desk_types.specs.Refusal.{is_want_of_memory, IsStoreRefusal}
-use Rattle.desk_threads.specs.declared.answer.Answer.{Answer}
+use Rattle.desk_replica.specs.declared.answer.Answer.{Answer}
 use Rattle.desk_threads.specs.ItemAnswers.{waiting_on, AreInformed, HearAndAreInformed}
 use Rattle.desk_threads.specs.Waiting.{SessionValue, after_stop, HearsAll}
 use Rattle.desk_threads.specs.Filed.{goes_on_after}
-use Rattle.desk_threads.proofs.KeeperRuns.{if_ok}
+use Rattle.desk_threads.proofs.KeeperRuns.{if_ok, if_err}
 use Rattle.desk_threads.proofs.StoredAnswers.{stops_after}
 
 -- whether the keeper goes on after an outcome that is known
@@ -76,3 +76,13 @@ pub once_stopped : {A : Type 0} (outcome : Result A Refusal) (answer : Result Bo
     (goes ≡ false → P) → IfErr answer (λ r. IsStoreRefusal r → P)
 once_stopped outcome answer r goes P is answer_is goes_is then =
     rw answer_is (λ fault. then (stops_after r goes (goes_on_if outcome (Err r) goes goes_is is) fault))
+
+-- what was made where the save failed, which the keeper leaves as it is
+pub made_stopped : {A R : Type 0} (outcome : Result A Refusal) (answer : Result Bool Refusal) (r : Refusal)
+    (goes : Bool) (made new : R) (Does : R → Type 0) → outcome ≡ Err r → answer ≡ Err r →
+    goes ≡ goes_on_after outcome → (goes ≡ false → new ≡ made) →
+    IfErr outcome (λ r. r ≡ refusals.StoreFault → Does made) → IfErr answer (λ r. r ≡ refusals.StoreFault → Does new)
+made_stopped outcome answer r goes made new Does is answer_is goes_is same did =
+    rw answer_is (λ fault.
+    subst Does (sym (same (goes_on_if outcome (Err r) goes goes_is is ∙ ap is_want_of_memory fault)))
+    (if_err outcome r _ is did fault))

@@ -4,12 +4,12 @@ use Rattle.std.proofs.Common.{append_assoc, arith, Result, Ok, Err}
 use Rattle.desk_types.specs.declared.epoch_packet.EpochPacket.{EpochPacket}
 use Rattle.desk_types.specs.declared.refusal.Refusal.{Refusal}
 use Rattle.desk_mailbox.specs.declared.item.Item.{Item}
-use Rattle.desk_threads.specs.declared.answer.Answer.{Answer}
-use Rattle.desk_threads.specs.declared.item_step.ItemStep.{ItemStep}
-use Rattle.desk_threads.specs.declared.replica.Replica.{Ghosts}
+use Rattle.desk_replica.specs.declared.answer.Answer.{Answer}
+use Rattle.desk_replica.specs.declared.item_step.ItemStep.{ItemStep}
+use Rattle.desk_replica.specs.declared.replica.Replica.{Ghosts}
 use Rattle.desk_threads.specs.Replicas.{MeetsItem, MeetsItems}
-use Rattle.desk_threads.specs.SavedItems.{MeetsAndSaves, MeetsAndFails}
-use Rattle.desk_threads.specs.Saving.{Saving, LogsGoOn}
+use Rattle.desk_threads.specs.SavedItems.{MeetsAndSaves, MeetsAndFails, SavesAndForgets}
+use Rattle.desk_replica.specs.Saving.{Saving, LogsGoOn}
 use Rattle.desk_threads.specs.Turns.{MetAndSaved, EndsInSave}
 use Rattle.desk_threads.proofs.Histories.{goes_then}
 
@@ -40,7 +40,8 @@ saves_then g s k m new (x ∷ xs) ys p q a b (made, mid, first, last, early, lat
 -- the items of a turn were met, and what they made was saved
 pub turn_saves : {R : Type 0} (g : Ghosts R) (s : Saving R) (k made new : R) (turn : List Item)
     (packets : List (ℕ × EpochPacket)) (answers : List Answer) → 0 < length turn →
-    MeetsItems g k turn packets answers made → s.saves made new → MeetsAndSaves g s k turn packets answers new
+    MeetsItems g k turn packets answers made → SavesAndForgets s made new →
+    MeetsAndSaves g s k turn packets answers new
 turn_saves g s k made new [] packets answers some met saved = absurd (omega (arith, some))
 turn_saves {R} g s k made new (x ∷ []) packets answers some (mid, first, last, early, late, e, f, one, rest) saved = (
   mid,
@@ -52,7 +53,7 @@ turn_saves {R} g s k made new (x ∷ []) packets answers some (mid, first, last,
   e,
   f,
   one,
-  inr (subst (λ (r : R). s.saves r new) rest.2 saved),
+  inr (subst (λ (r : R). SavesAndForgets s r new) rest.2 saved),
   (rest.0, rest.1, refl),
 )
 turn_saves g s k made new (x ∷ y ∷ more) packets answers some (mid, first, last, early, late, e, f, one, rest) saved = (

@@ -13,7 +13,7 @@ use Rattle.desk_log.proofs.KnownPrefix.{front_after}
 use Rattle.desk_mailbox.specs.declared.item.Item.{Item}
 use Rattle.desk_mailbox.specs.declared.rule.SentItem.{SentItem}
 use Rattle.desk_node.specs.NodeValue.{IsSameNode}
-use Rattle.desk_threads.specs.declared.answer.Answer.{Answer}
+use Rattle.desk_replica.specs.declared.answer.Answer.{Answer}
 use Rattle.desk_threads.specs.declared.handing.Out.{Ghosts as OutGhosts}
 use Rattle.desk_threads.specs.declared.saved_node.SavedNode.{SavedNode}
 use Rattle.desk_threads.specs.Filed.{IsFiled, IsUnfiled}
@@ -21,11 +21,18 @@ use Rattle.desk_threads.specs.ItemAnswers.{AnswersSessions}
 use Rattle.desk_threads.specs.OwnedValue.{OwnedValue, DoesItem, DoesItems}
 use Rattle.desk_threads.specs.Replicas.{MeetsItem, MeetsItems}
 use Rattle.desk_threads.specs.Runs.{items_in, Ran, Stand, TakesTurn}
-use Rattle.desk_threads.specs.SavedItems.{DoesAndSaves, DoesAndFails, MeetsAndSaves, MeetsAndFails}
-use Rattle.desk_threads.specs.SavedNodes.{saved_node_replica, node_saving}
-use Rattle.desk_threads.specs.Saving.{LogsGoOn, StaysSaved}
+use Rattle.desk_threads.specs.SavedItems.{DoesAndForgets, DoesAndFails, MeetsAndSaves, MeetsAndFails}
+use Rattle.desk_threads.specs.SavedItems.{RefusesAndForgets}
+use Rattle.desk_threads.specs.SavedNodes.{saved_node_replica, node_saving, SavedNodeRefuses, SavesNode}
+use Rattle.desk_replica.specs.Saving.{MayForget, GoesOnAndForgets, LogsGoOn, StaysSaved}
 use Rattle.desk_threads.specs.Telling.{AnswersItems}
 use Rattle.desk_threads.proofs.ReplicaItems.{node_replica, node_items}
+
+-- Nothing is reported to a node, so it stays as it is.
+pub node_forgets_nothing : {S : Type 0} (g : StoreGhosts S) (old new : SavedNode S) →
+    MayForget (node_saving g) old new → new ≡ old
+node_forgets_nothing g old new (inl same) = same
+node_forgets_nothing g old new (inr same) = same
 
 saved_item : {S : Type 0} (k new : SavedNode S) (item : Item) (packets : List (ℕ × EpochPacket))
     (answers : List Answer) → MeetsItem saved_node_replica k item packets answers new →
@@ -55,7 +62,8 @@ saves_items {S} g k new (item ∷ more) packets answers
     (made, mid, first, last, early, late, e, f, one, saved, rest) =
     let o = saved_item k made item first early one in
     let is : mid.owned ≡ made.owned =
-    ⊎_elim (λ (same : mid ≡ made). ap (λ (r : SavedNode S). r.owned) same) (λ saves. saves.0) saved in (
+    ⊎_elim (λ (same : mid ≡ made). ap (λ (r : SavedNode S). r.owned) same)
+    (λ saves. ap (λ (r : SavedNode S). r.owned) (node_forgets_nothing g saves.0 mid saves.2) ∙ saves.1.0) saved in (
       made.owned,
       first,
       last,
@@ -77,10 +85,12 @@ pub node_turn : {O S : Type 0} (out : OutGhosts O) (g : StoreGhosts S) (most : �
 node_turn {O} {S} out g most turn old new took =
     let m = saved_items old.replica took.made turn took.packets took.answers took.does in
     let d = node_items old.replica.owned took.made.owned turn took.packets took.answers m.0 in
-    let same = sym took.saved.0 in (
+    let saved = subst (λ (r : SavedNode S). SavesNode g took.made r)
+    (sym (node_forgets_nothing g took.stored new.replica took.forgets)) took.saved in
+    let same = sym saved.0 in (
       subst (λ (k : OwnedValue). DoesItems old.replica.owned turn took.packets k) same d.0,
       subst (λ (k : OwnedValue). AnswersItems old.replica.owned turn took.answers k) same d.1,
-      subst (λ (t : S). IsFiled g t new.replica.store new.replica.owned.node.saved) m.1 took.saved.1,
+      subst (λ (t : S). IsFiled g t new.replica.store new.replica.owned.node.saved) m.1 saved.1,
     )
 
 -- And what it published is committed at the node.
@@ -129,14 +139,22 @@ node_fails {S} g old new turn (packets, answers, made, met, was, failed) =
 
 -- An item that was done and saved, as `Keeper::handle` promises it.
 pub node_did : {S : Type 0} (g : StoreGhosts S) (old new : SavedNode S) (item : Item) (packets : List (ℕ × EpochPacket))
-    (answers : List Answer) → DoesAndSaves saved_node_replica (node_saving g) old item packets answers new →
+    (answers : List Answer) → DoesAndForgets saved_node_replica (node_saving g) old item packets answers new →
     DoesItem old.owned item packets new.owned × AnswersSessions old.owned item answers
     × IsSameNode old.owned.node new.owned.node
-node_did {S} g old new item packets answers (made, does, saved) = (
-  subst (λ (k : OwnedValue). DoesItem old.owned item packets k) (sym saved.0) does.0.0,
-  does.0.1,
-  subst (λ (k : OwnedValue). IsSameNode old.owned.node k.node) (sym saved.0) does.0.2,
-)
+node_did {S} g old new item packets answers (stored, (made, does, saved), forgets) =
+    let same : made.owned ≡ new.owned =
+    sym (ap (λ (r : SavedNode S). r.owned) (node_forgets_nothing g stored new forgets) ∙ saved.0) in (
+      subst (λ (k : OwnedValue). DoesItem old.owned item packets k) same does.0.0,
+      does.0.1,
+      subst (λ (k : OwnedValue). IsSameNode old.owned.node k.node) same does.0.2,
+    )
+
+-- One that was refused and counted.
+pub node_counted : {S : Type 0} (g : StoreGhosts S) (old new : SavedNode S) →
+    RefusesAndForgets saved_node_replica (node_saving g) old new → SavedNodeRefuses old new
+node_counted {S} g old new (counted, refused, forgets) =
+    subst (λ (r : SavedNode S). SavedNodeRefuses old r) (sym (node_forgets_nothing g counted new forgets)) refused
 
 -- And one whose save failed.
 pub node_made : {S : Type 0} (g : StoreGhosts S) (old new : SavedNode S) (item : Item)
@@ -152,6 +170,12 @@ node_made {S} g old new item packets answers (made, does, was, failed) = (
         (subst (λ (t : S). g.leaves t made.owned.node.saved new.store) does.1 failed.1);
   },
 )
+
+-- Its log goes on, and nothing else happens to it.
+pub node_goes_on : {S : Type 0} (g : StoreGhosts S) (old new : SavedNode S) → GoesOnAndForgets (node_saving g) old new →
+    LogsGoOn (node_saving g) old new
+node_goes_on {S} g old new (end, on, forgets) =
+    subst (λ (r : SavedNode S). LogsGoOn (node_saving g) old r) (sym (node_forgets_nothing g end new forgets)) on
 
 -- It is the same node, and its state is the one that its store saved last.
 pub node_on : {S : Type 0} (g : StoreGhosts S) (old new : SavedNode S) → LogsGoOn (node_saving g) old new →

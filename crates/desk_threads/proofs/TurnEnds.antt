@@ -6,11 +6,11 @@ use mathlib.Core.List.{IsPrefix}
 use Rattle.desk_types.specs.declared.command.Entry.{Entry}
 use Rattle.desk_mailbox.specs.declared.item.Item.{Item}
 use Rattle.desk_mailbox.specs.declared.rule.SentItem.{SentItem}
-use Rattle.desk_threads.specs.declared.answer.Answer.{Answer}
-use Rattle.desk_threads.specs.declared.item_step.ItemStep.{ItemStep}
+use Rattle.desk_replica.specs.declared.answer.Answer.{Answer}
+use Rattle.desk_replica.specs.declared.item_step.ItemStep.{ItemStep}
 use Rattle.desk_threads.specs.declared.handing.Out.{Ghosts}
-use Rattle.desk_threads.specs.declared.replica.Replica.{Ghosts as ReplicaGhosts}
-use Rattle.desk_threads.specs.Saving.{Saving}
+use Rattle.desk_replica.specs.declared.replica.Replica.{Ghosts as ReplicaGhosts}
+use Rattle.desk_replica.specs.Saving.{Saving, MayForget, after_base}
 use Rattle.desk_threads.specs.Waiting.{SessionValue, HearsAll, Tells, after_stop}
 use Rattle.desk_threads.specs.EndingItems.{OnlyLastEnds}
 use Rattle.desk_threads.specs.Telling.{after_items, NotesItems, TellsOfStop, TellsRoundLate}
@@ -35,21 +35,20 @@ reported_by list xs ys noted new late e (heard, a, b) = (heard, subst (λ w. All
 
 -- a turn that was saved
 pub saved_turn : {O R : Type 0} (g : Ghosts O) (h : ReplicaGhosts R) (s : Saving R) (most : ℕ) (item : Item)
-    (sent : List (SentItem Item)) (first last : List ItemStep) (old new : Stand O R) (made : R)
+    (sent : List (SentItem Item)) (first last : List ItemStep) (old new : Stand O R) (made stored : R)
     (noted : List SessionValue) (late : Option Item) (past : List Entry) → length sent < most →
     OnlyLastEnds (item ∷ items_in sent) → first ≡ [] → MetMore h old.replica first (item ∷ items_in sent) made last →
-    h.follows old.replica made → s.saves made new.replica → NotesItems (item ∷ items_in sent) old.waiting noted late →
+    h.follows old.replica made → s.saves made stored → MayForget s stored new.replica →
+    NotesItems (item ∷ items_in sent) old.waiting noted late →
     g.takes old.out (packets_of_steps last) new.out → IsPrefix old.published new.published →
-    s.stands new.replica past → IsPrefix new.published (past ++ s.cut new.replica) →
-    MatchBool new.all_published (new.published ≡ past ++ s.cut new.replica)
-    (new.published ≢ past ++ s.cut new.replica) →
+    s.stands new.replica past → IsPrefix new.published (past ++ after_base s new.replica) →
+    MatchBool new.all_published (new.published ≡ past ++ after_base s new.replica)
+    (new.published ≢ past ++ after_base s new.replica) →
     (heard : List SessionValue) × AllZip (HearsAll (answers_of_steps last)) noted heard
     × TellsRoundLate new.published late heard new.waiting →
     TakesTurn g h s most (item ∷ items_in sent) old new
-saved_turn g h s most item sent first last old new made noted late past few early none (p, b, e, i, does) follows saved
-    notes
-    gave
-    grows stands shown whole reported =
+saved_turn g h s most item sent first last old new made stored noted late past few early none (p, b, e, i, does) follows
+    saved forgets notes gave grows stands shown whole reported =
     let size = some_few item (items_in sent) most (fewer _ _ most (items_few sent) few) in
     let heard = reported_by new.published (answers_of_steps last) b noted new.waiting late
     (i ∙ ap (λ w. answers_of_steps w ++ b) none) reported in
@@ -62,7 +61,9 @@ saved_turn g h s most item sent first last old new made noted late past few earl
       made = made;
       does = does;
       follows = follows;
+      stored = stored;
       saved = saved;
+      forgets = forgets;
       gave = subst (λ w. g.takes old.out w new.out) (e ∙ ap (λ w. packets_of_steps w ++ p) none) gave;
       grows = grows;
       past = past;

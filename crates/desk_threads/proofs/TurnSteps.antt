@@ -6,13 +6,13 @@ use Rattle.std.specs.List.{AllZip}
 use Rattle.desk_types.specs.declared.epoch_packet.EpochPacket.{EpochPacket}
 use Rattle.desk_mailbox.specs.declared.item.Item.{Item}
 use Rattle.desk_mailbox.specs.declared.rule.SentItem.{SentItem}
-use Rattle.desk_threads.specs.declared.item_step.ItemStep.{ItemStep}
-use Rattle.desk_threads.specs.EpochPackets.{packets_of_step}
+use Rattle.desk_replica.specs.declared.item_step.ItemStep.{ItemStep}
+use Rattle.desk_replica.specs.EpochPackets.{packets_of_step}
 use Rattle.desk_threads.specs.Waiting.{SessionValue, HearsAll}
 use Rattle.desk_threads.proofs.ReplicaItems.{meets_one, meets_then}
 use Rattle.desk_threads.specs.Turns.{packets_of_steps, answers_of_steps, MetMore, TookMore, NotesMore}
 use Rattle.desk_threads.specs.declared.handing.Out.{Ghosts as OutGhosts}
-use Rattle.desk_threads.specs.declared.replica.Replica.{Ghosts}
+use Rattle.desk_replica.specs.declared.replica.Replica.{Ghosts}
 use Rattle.desk_threads.specs.Runs.{items_in}
 use Rattle.desk_threads.specs.Telling.{NotesItems}
 use Rattle.desk_threads.proofs.KeeperRuns.{TakesThen, items_then}

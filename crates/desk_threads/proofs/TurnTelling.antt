@@ -7,9 +7,10 @@ use Rattle.std.specs.List.{AllZip, FoldsTo}
 use Rattle.desk_types.specs.declared.outcome.Outcome.{Outcome}
 use Rattle.desk_mailbox.specs.declared.item.Item.{Item}
 use Rattle.desk_mailbox.specs.declared.item.Item.TheVariants as items
-use Rattle.desk_threads.specs.declared.answer.Answer.{Answer}
-use Rattle.desk_threads.specs.Answers.{session_answer, session_answers}
-use Rattle.desk_threads.specs.Waiting.{SessionValue, after_item, Hears, HearsAll, TakesMemory}
+use Rattle.desk_replica.specs.declared.answer.Answer.{Answer}
+use Rattle.desk_replica.specs.Answers.{session_answer, session_answers}
+use Rattle.desk_threads.specs.Waiting.{SessionValue, after_item, Hears, HearsAll}
+use Rattle.desk_replica.specs.Answers.{TakesMemory}
 use Rattle.desk_threads.specs.Telling.{after_items, late_of, NotesItems}
 
 after_then : (xs ys : List Item) (s : List SessionValue) → after_items (xs ++ ys) s ≡ after_items ys (after_items xs s)
@@ -87,30 +88,32 @@ pub hears_one : (answer : Answer) (old new : List SessionValue) → AllZip (Hear
     AllZip (HearsAll (answer ∷ [])) old new
 hears_one answer old new h = zips_each (Hears answer) (HearsAll (answer ∷ [])) old new (λ x y p. (y, p, refl)) h
 
-answers_more : (xs : List Outcome) (x : Outcome) →
-    session_answers (xs ++ x ∷ []) ≡ session_answers xs ++ option_to_list (session_answer x)
-answers_more [] x = append-nil (option_to_list (session_answer x))
-answers_more (y ∷ xs) x =
-    ap (λ w. option_to_list (session_answer y) ++ w) (answers_more xs x)
-    ∙ sym (append_assoc (option_to_list (session_answer y)) (session_answers xs) (option_to_list (session_answer x)))
+answers_more : (base : ℕ) (xs : List Outcome) (x : Outcome) →
+    session_answers base (xs ++ x ∷ []) ≡ session_answers base xs ++ option_to_list (session_answer base x)
+answers_more base [] x = append-nil (option_to_list (session_answer base x))
+answers_more base (y ∷ xs) x =
+    ap (λ w. option_to_list (session_answer base y) ++ w) (answers_more base xs x)
+    ∙ sym (append_assoc (option_to_list (session_answer base y)) (session_answers base xs)
+    (option_to_list (session_answer base x)))
 
 -- one outcome more was heard
-pub hears_more : (xs : List Outcome) (x : Outcome) (old mid new : List SessionValue) →
-    AllZip (HearsAll (session_answers xs)) old mid → AllZip (HearsAll (option_to_list (session_answer x))) mid new →
-    AllZip (HearsAll (session_answers (xs ++ x ∷ []))) old new
-hears_more xs x old mid new one more =
-    subst (λ w. AllZip (HearsAll w) old new) (sym (answers_more xs x))
-    (hears_then (session_answers xs) (option_to_list (session_answer x)) old mid new one more)
+pub hears_more : (base : ℕ) (xs : List Outcome) (x : Outcome) (old mid new : List SessionValue) →
+    AllZip (HearsAll (session_answers base xs)) old mid →
+    AllZip (HearsAll (option_to_list (session_answer base x))) mid new →
+    AllZip (HearsAll (session_answers base (xs ++ x ∷ []))) old new
+hears_more base xs x old mid new one more =
+    subst (λ w. AllZip (HearsAll w) old new) (sym (answers_more base xs x))
+    (hears_then (session_answers base xs) (option_to_list (session_answer base x)) old mid new one more)
 
 -- and so of outcomes, one by one
-pub hears_next : (xs : List Outcome) (i : ℕ) (x : Outcome) (old mid new : List SessionValue) → i < length xs →
-    x ≡ get_or xs i x → AllZip (HearsAll (session_answers (take i xs))) old mid →
-    AllZip (HearsAll (option_to_list (session_answer x))) mid new →
-    AllZip (HearsAll (session_answers (take (i + 1) xs))) old new
-hears_next xs i x old mid new lt is one more =
-    subst (λ l. AllZip (HearsAll (session_answers l)) old new)
+pub hears_next : (base : ℕ) (xs : List Outcome) (i : ℕ) (x : Outcome) (old mid new : List SessionValue) →
+    i < length xs → x ≡ get_or xs i x → AllZip (HearsAll (session_answers base (take i xs))) old mid →
+    AllZip (HearsAll (option_to_list (session_answer base x))) mid new →
+    AllZip (HearsAll (session_answers base (take (i + 1) xs))) old new
+hears_next base xs i x old mid new lt is one more =
+    subst (λ l. AllZip (HearsAll (session_answers base l)) old new)
     (ap (λ z. take i xs ++ z ∷ []) is ∙ sym (take_more xs i x lt))
-    (hears_more (take i xs) x old mid new one more)
+    (hears_more base (take i xs) x old mid new one more)
 
 -- the answer of an outcome was heard
 pub hears_some : (o r : Option Answer) (answer : Answer) (old new : List SessionValue) →

@@ -9,9 +9,9 @@ use Rattle.desk_mailbox.specs.declared.item.Item.TheVariants as items
 use Rattle.desk_node.specs.declared.event.Event.TheVariants as events
 use Rattle.desk_node.specs.Heard.{Says}
 use Rattle.desk_node.specs.Rules.{node_step}
-use Rattle.desk_threads.specs.declared.answer.Answer.{Answer}
-use Rattle.desk_threads.specs.Answers.{session_answers}
-use Rattle.desk_threads.specs.EpochPackets.{is_first_step}
+use Rattle.desk_replica.specs.declared.answer.Answer.{Answer}
+use Rattle.desk_replica.specs.Answers.{session_answers}
+use Rattle.desk_replica.specs.EpochPackets.{is_first_step}
 use Rattle.desk_threads.specs.Keeper.{KeeperState, suspects, tick_event}
 use Rattle.desk_threads.specs.OwnedValue.{OwnedValue, state_of}
 use Rattle.desk_threads.specs.Waiting.{SessionValue, after_stop, HearsAll, Tells}
@@ -34,7 +34,7 @@ Answers old item answers =
 -- These are the node's answers at the item, as the sessions hear them.
 abbrev pub AnswersSessions : OwnedValue → Item → List Answer → Type 0
 AnswersSessions old item answers =
-    (outcomes : List Outcome) × Answers old item outcomes × (answers ≡ session_answers outcomes)
+    (outcomes : List Outcome) × Answers old item outcomes × (answers ≡ session_answers 0 outcomes)
 
 -- the sessions, which wait on where the keeper goes on, and else are to hear that it stops
 abbrev pub waiting_on : Bool → List SessionValue → List SessionValue

@@ -13,8 +13,8 @@ use Rattle.desk_node.specs.declared.event.Event.{Event}
 use Rattle.desk_node.specs.declared.event.Event.TheVariants as events
 use Rattle.desk_node.specs.Rules.{node_step}
 use Rattle.desk_node.specs.State.{State, NodeStep}
-use Rattle.desk_threads.specs.declared.limits.TheConstants.{SUSPECT_TICKS}
-use Rattle.desk_threads.specs.EpochPackets.{first_steps, is_first_step}
+use Rattle.desk_types.specs.declared.limits.TheConstants.{SUSPECT_TICKS}
+use Rattle.desk_replica.specs.EpochPackets.{first_steps, is_first_step}
 
 -- a node, the ticks since it last heard of its primary or suspected it, and how many items were refused
 pub record KeeperState : Type 0 where

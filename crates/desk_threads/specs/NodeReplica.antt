@@ -5,7 +5,7 @@ use Rattle.desk_log.specs.Entries.{IsLogPrefix}
 use Rattle.desk_log.specs.SavedValue.{committed_entries}
 use Rattle.desk_mailbox.specs.declared.item.Item.{Item}
 use Rattle.desk_node.specs.NodeValue.{IsSameNode}
-use Rattle.desk_threads.specs.declared.answer.Answer.{Answer}
+use Rattle.desk_replica.specs.declared.answer.Answer.{Answer}
 use Rattle.desk_threads.specs.ItemAnswers.{AnswersSessions}
 use Rattle.desk_threads.specs.OwnedValue.{OwnedValue, DoesItem, with_one_refused}
 

@@ -9,12 +9,12 @@ use Rattle.desk_types.specs.declared.refusal.Refusal.TheVariants as refusals
 use Rattle.desk_mailbox.specs.declared.item.Item.{Item}
 use Rattle.desk_mailbox.specs.declared.item.Item.TheVariants as items
 use Rattle.desk_mailbox.specs.declared.rule.SentItem.{SentItem}
-use Rattle.desk_threads.specs.declared.answer.Answer.{Answer}
+use Rattle.desk_replica.specs.declared.answer.Answer.{Answer}
 use Rattle.desk_threads.specs.declared.handing.Out.{Ghosts}
-use Rattle.desk_threads.specs.declared.replica.Replica.{Ghosts as ReplicaGhosts}
+use Rattle.desk_replica.specs.declared.replica.Replica.{Ghosts as ReplicaGhosts}
 use Rattle.desk_threads.specs.Replicas.{MeetsItems}
 use Rattle.desk_threads.specs.SavedItems.{MeetsAndSaves, MeetsAndFails}
-use Rattle.desk_threads.specs.Saving.{Saving}
+use Rattle.desk_replica.specs.Saving.{Saving, MayForget, after_base}
 use Rattle.desk_threads.specs.Waiting.{SessionValue}
 use Rattle.desk_threads.specs.EndingItems.{OnlyLastEnds}
 use Rattle.desk_threads.specs.Telling.{TellsOfTurn, TellsOfStop}
@@ -63,9 +63,10 @@ stand replica waiting published all_published out = record {
 }
 
 -- A turn leads from here to there. It has one item at least and so many at most, and none but the last ends it. Its
--- items were done or refused, in order; what they made was saved; what was published went on, within what the replica
--- has committed then, after the logs of its past, and the keeper says whether it is all of that; their packets went
--- out, in order; and the sessions that wait heard of the items and of what was answered.
+-- items were done or refused, in order; what they made was saved, and then the replica may have forgotten the log that
+-- was reported to it; what was published went on, within what the replica has committed then, after the logs of its
+-- past, and the keeper says whether it is all of that; their packets went out, in order; and the sessions that wait
+-- heard of the items and of what was answered.
 pub record TakesTurn {O R : Type 0} (g : Ghosts O) (h : ReplicaGhosts R) (s : Saving R) (most : ℕ) (turn : List Item)
     (old new : Stand O R) : Type 0 where
   pub some : 0 < length turn
@@ -76,14 +77,16 @@ pub record TakesTurn {O R : Type 0} (g : Ghosts O) (h : ReplicaGhosts R) (s : Sa
   pub made : R
   pub does : MeetsItems h old.replica turn packets answers made
   pub follows : h.follows old.replica made
-  pub saved : s.saves made new.replica
+  pub stored : R
+  pub saved : s.saves made stored
+  pub forgets : MayForget s stored new.replica
   pub gave : g.takes old.out packets new.out
   pub grows : IsPrefix old.published new.published
   pub past : List Entry
   pub stands : s.stands new.replica past
-  pub shown : IsPrefix new.published (past ++ s.cut new.replica)
-  pub whole : MatchBool new.all_published (new.published ≡ past ++ s.cut new.replica)
-      (new.published ≢ past ++ s.cut new.replica)
+  pub shown : IsPrefix new.published (past ++ after_base s new.replica)
+  pub whole : MatchBool new.all_published (new.published ≡ past ++ after_base s new.replica)
+      (new.published ≢ past ++ after_base s new.replica)
   pub reported : TellsOfTurn new.published turn answers old.waiting new.waiting
 
 -- So do turns, one after the other.

@@ -2,16 +2,26 @@
 use Rattle.std.specs.Prelude.{◌≡◌, ◌⊎◌, ℕ, List, [], ◌∷◌, ◌++◌}
 use Rattle.desk_types.specs.declared.epoch_packet.EpochPacket.{EpochPacket}
 use Rattle.desk_mailbox.specs.declared.item.Item.{Item}
-use Rattle.desk_threads.specs.declared.answer.Answer.{Answer}
-use Rattle.desk_threads.specs.declared.replica.Replica.{Ghosts}
+use Rattle.desk_replica.specs.declared.answer.Answer.{Answer}
+use Rattle.desk_replica.specs.declared.replica.Replica.{Ghosts}
 use Rattle.desk_threads.specs.Replicas.{MeetsItem, MeetsItems}
-use Rattle.desk_threads.specs.Saving.{Saving}
+use Rattle.desk_replica.specs.Saving.{Saving, MayForget}
 
 -- The item was done, and what it made was saved.
 abbrev pub DoesAndSaves : {R : Type 0} → Ghosts R → Saving R → R → Item → List (ℕ × EpochPacket) → List Answer → R →
     Type 0
 DoesAndSaves {R} g s old item packets answers new =
     (made : R) × g.does old item packets answers made × s.saves made new
+
+-- The item was done, what it made was saved, and then the replica may have forgotten the log that was reported to it.
+abbrev pub DoesAndForgets : {R : Type 0} → Ghosts R → Saving R → R → Item → List (ℕ × EpochPacket) → List Answer → R →
+    Type 0
+DoesAndForgets {R} g s old item packets answers new =
+    (saved : R) × DoesAndSaves g s old item packets answers saved × MayForget s saved new
+
+-- The item was refused and counted, and then the replica may have forgotten the log that was reported to it.
+abbrev pub RefusesAndForgets : {R : Type 0} → Ghosts R → Saving R → R → R → Type 0
+RefusesAndForgets {R} g s old new = (counted : R) × g.refuses old counted × MayForget s counted new
 
 -- The item was done, and what it made was not saved: the state of before was the one that was saved last, and the save
 -- failed.
@@ -26,6 +36,10 @@ MeetsAndFails {R} g s old items new =
     (packets : List (ℕ × EpochPacket)) × (answers : List Answer) × (made : R)
     × MeetsItems g old items packets answers made × s.is_saved old × s.fails made new
 
+-- The replica was saved, and then it may have forgotten the log that was reported to it.
+abbrev pub SavesAndForgets : {R : Type 0} → Saving R → R → R → Type 0
+SavesAndForgets {R} s made new = (saved : R) × s.saves made saved × MayForget s saved new
+
 -- The items were done or refused, in order, and what each of them made may have been saved after it.
 abbrev pub MeetsAndSaves : {R : Type 0} → Ghosts R → Saving R → R → List Item → List (ℕ × EpochPacket) →
     List Answer → R → Type 0
@@ -33,5 +47,5 @@ MeetsAndSaves g s old [] packets answers new = (packets ≡ []) × (answers ≡ 
 MeetsAndSaves {R} g s old (item ∷ more) packets answers new =
     (made : R) × (mid : R) × (first : List (ℕ × EpochPacket)) × (last : List (ℕ × EpochPacket))
     × (early : List Answer) × (late : List Answer) × (packets ≡ first ++ last) × (answers ≡ early ++ late)
-    × MeetsItem g old item first early made × ((mid ≡ made) ⊎ s.saves made mid)
+    × MeetsItem g old item first early made × ((mid ≡ made) ⊎ SavesAndForgets s made mid)
     × MeetsAndSaves g s mid more last late new

@@ -1,5 +1,5 @@
 -- A node with its store, as what a keeper does its items to and saves.
-use Rattle.std.specs.Prelude.{◌≡◌, ℕ, Bool, false, List, [], length}
+use Rattle.std.specs.Prelude.{◌≡◌, ◌++◌, ℕ, Bool, false, List, [], length}
 use Rattle.std.proofs.Common.{refl, ap, ◌∙◌, sym, subst, append-nil}
 use Rattle.std.proofs.Props.{props}
 use mathlib.Core.List.{IsPrefix}
@@ -9,15 +9,15 @@ use Rattle.desk_types.specs.declared.epoch_packet.EpochPacket.{EpochPacket}
 use Rattle.desk_log.specs.SavedValue.{SavedValue, committed_entries}
 use Rattle.desk_log.specs.declared.state_store.StateStore.{Ghosts}
 use Rattle.desk_mailbox.specs.declared.item.Item.{Item}
-use Rattle.desk_threads.specs.declared.answer.Answer.{Answer}
-use Rattle.desk_threads.specs.declared.replica.Replica.{Ghosts as ReplicaGhosts}
+use Rattle.desk_replica.specs.declared.answer.Answer.{Answer}
+use Rattle.desk_replica.specs.declared.replica.Replica.{Ghosts as ReplicaGhosts}
 use Rattle.desk_threads.specs.declared.saved_node.SavedNode.{SavedNode}
 use Rattle.desk_threads.specs.Filed.{IsFiled}
 use Rattle.desk_threads.specs.NodeInOrder.{node_still, node_further}
 use Rattle.desk_threads.specs.NodeReplica.{NodeDoes, NodeFollows, NodeRefuses}
 use Rattle.desk_threads.specs.OwnedValue.{OwnedValue}
 use Rattle.desk_threads.specs.Prefixes.{begins}
-use Rattle.desk_threads.specs.Saving.{Saving, LogsGoOn}
+use Rattle.desk_replica.specs.Saving.{Saving, LogsGoOn, ForgetsReported}
 use Rattle.desk_node.specs.NodeValue.{NodeValue, IsSameNode}
 
 -- The node did an item in memory, and its store is as it was.
@@ -62,11 +62,13 @@ node_saving g = record {
   owner = λ r. owner_of_node r.owned.node;
   stands = λ r past. past ≡ [];
   base = λ r. 0;
+  reported = λ r. [];
   cut = λ r. committed_entries r.owned.node.saved;
   is_saved = IsSavedNode g;
   saves = SavesNode g;
   fails = FailsToSaveNode g;
   keeps = λ old new. g.keeps old.store new.store;
+  forgets = λ old new. new ≡ old;
   stands_prop = λ r past. no_past_prop past;
   saved_prop = λ r. IsSavedNode-prop g r;
 }
@@ -89,8 +91,10 @@ pub node_saved_last : {S : Type 0} (g : Ghosts S) (old new : SavedNode S) → Sa
 node_saved_last g old new saves = (saves.1.last, saves.1.running)
 
 pub node_saved_same : {S : Type 0} (g : Ghosts S) (old new : SavedNode S) → SavesNode g old new →
-    (◌≡◌ {A = ℕ} 0 0) × (committed_entries new.owned.node.saved ≡ committed_entries old.owned.node.saved)
-node_saved_same g old new saves = (refl, ap (λ (k : OwnedValue). committed_entries k.node.saved) saves.0)
+    (◌≡◌ {A = ℕ} 0 0) × (◌≡◌ {A = List Entry} [] [])
+    × (committed_entries new.owned.node.saved ≡ committed_entries old.owned.node.saved)
+node_saved_same g old new saves =
+    (refl, refl, ap (λ (k : OwnedValue). committed_entries k.node.saved) saves.0)
 
 same_owner : (old new : NodeValue) → IsSameNode old new → owner_of_node new ≡ owner_of_node old
 same_owner old new same =
@@ -111,16 +115,23 @@ pub node_followed_on : {S : Type 0} (g : Ghosts S) (old new : SavedNode S) → S
 node_followed_on g old new follows = record {
   owner = same_owner old.owned.node new.owned.node follows.0.0;
   base = refl;
-  cut = begins (committed_entries old.owned.node.saved) (committed_entries new.owned.node.saved) follows.0.1;
+  after = begins (committed_entries old.owned.node.saved) (committed_entries new.owned.node.saved) follows.0.1;
+  next = begins (committed_entries old.owned.node.saved) (committed_entries new.owned.node.saved) follows.0.1;
   stands = λ past none. none;
 }
+
+same_cut : (old new : OwnedValue) → new ≡ old →
+    IsPrefix (committed_entries old.node.saved) (committed_entries new.node.saved)
+same_cut old new same =
+    subst (λ (k : OwnedValue). IsPrefix (committed_entries old.node.saved) (committed_entries k.node.saved))
+    (sym same) ([], append-nil (committed_entries old.node.saved))
 
 same_on : {S : Type 0} (g : Ghosts S) (old new : SavedNode S) → new.owned ≡ old.owned → LogsGoOn (node_saving g) old new
 same_on g old new same = record {
   owner = ap (λ (k : OwnedValue). owner_of_node k.node) same;
   base = refl;
-  cut = subst (λ (k : OwnedValue). IsPrefix (committed_entries old.owned.node.saved) (committed_entries k.node.saved))
-      (sym same) ([], append-nil (committed_entries old.owned.node.saved));
+  after = same_cut old.owned new.owned same;
+  next = same_cut old.owned new.owned same;
   stands = λ past none. none;
 }
 
@@ -139,3 +150,16 @@ node_followed_keeps keeps still old new follows = subst (keeps old.store) (sym f
 pub node_saved_keeps : {S : Type 0} (g : Ghosts S) (old new : SavedNode S) → SavesNode g old new →
     g.keeps old.store new.store
 node_saved_keeps g old new saves = saves.1.keeps
+
+-- Nothing is reported to a node, so it has nothing to forget.
+pub node_forgets : {S : Type 0} (g : Ghosts S) → ((a : S) → g.keeps a a) → (old new : SavedNode S) → new ≡ old →
+    ForgetsReported (node_saving g) old new
+node_forgets {S} g still old new same = record {
+  owner = ap (λ (r : SavedNode S). owner_of_node r.owned.node) same;
+  base = refl;
+  reported = refl;
+  cut = ap (λ (r : SavedNode S). committed_entries r.owned.node.saved) same;
+  stands = λ past none. ap (λ (list : List Entry). list ++ []) none;
+  saved = λ is. subst (λ (r : SavedNode S). IsSavedNode g r) (sym same) is;
+  keeps = subst (λ (r : SavedNode S). g.keeps old.store r.store) (sym same) (still old.store);
+}

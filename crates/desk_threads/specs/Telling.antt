@@ -5,7 +5,7 @@ use Rattle.desk_types.specs.declared.command.Entry.{Entry}
 use Rattle.desk_types.specs.declared.epoch_packet.EpochPacket.{EpochPacket}
 use Rattle.desk_mailbox.specs.declared.item.Item.{Item}
 use Rattle.desk_mailbox.specs.declared.item.Item.TheVariants as items
-use Rattle.desk_threads.specs.declared.answer.Answer.{Answer}
+use Rattle.desk_replica.specs.declared.answer.Answer.{Answer}
 use Rattle.desk_threads.specs.OwnedValue.{OwnedValue, DoesItem, with_one_refused}
 use Rattle.desk_threads.specs.ItemAnswers.{AnswersSessions}
 use Rattle.desk_threads.specs.Waiting.{SessionValue, after_item, after_stop, HearsAll, Tells}

@@ -4,12 +4,12 @@ use Rattle.desk_types.specs.declared.refusal.Refusal.{Refusal}
 use Rattle.desk_types.specs.declared.epoch_packet.EpochPacket.{EpochPacket}
 use Rattle.desk_mailbox.specs.declared.item.Item.{Item}
 use Rattle.desk_mailbox.specs.declared.rule.SentItem.{SentItem}
-use Rattle.desk_threads.specs.declared.answer.Answer.{Answer}
-use Rattle.desk_threads.specs.declared.item_step.ItemStep.{ItemStep}
-use Rattle.desk_threads.specs.declared.replica.Replica.{Ghosts}
-use Rattle.desk_threads.specs.EpochPackets.{packets_of_step}
+use Rattle.desk_replica.specs.declared.answer.Answer.{Answer}
+use Rattle.desk_replica.specs.declared.item_step.ItemStep.{ItemStep}
+use Rattle.desk_replica.specs.declared.replica.Replica.{Ghosts}
+use Rattle.desk_replica.specs.EpochPackets.{packets_of_step}
 use Rattle.desk_threads.specs.Replicas.{MeetsItems}
-use Rattle.desk_threads.specs.Saving.{Saving}
+use Rattle.desk_replica.specs.Saving.{Saving}
 use Rattle.desk_threads.specs.Waiting.{SessionValue}
 use Rattle.desk_threads.specs.EndingItems.{NoneEnds, OnlyLastEnds}
 use Rattle.desk_threads.specs.Runs.{items_in}

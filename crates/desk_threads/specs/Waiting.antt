@@ -13,8 +13,9 @@ use Rattle.desk_mailbox.specs.declared.item.Item.TheVariants as items
 use Rattle.desk_published.specs.Reported.{is_request_at}
 use Rattle.desk_published.specs.declared.reported.ReportedWord.{ReportedWord}
 use Rattle.desk_published.specs.declared.reported.ReportedWord.TheVariants as words
-use Rattle.desk_threads.specs.declared.answer.Answer.{Answer}
-use Rattle.desk_threads.specs.declared.answer.Answer.TheVariants.{Committed, Refused}
+use Rattle.desk_replica.specs.Answers.{TakesMemory}
+use Rattle.desk_replica.specs.declared.answer.Answer.{Answer}
+use Rattle.desk_replica.specs.declared.answer.Answer.TheVariants.{Committed, Refused}
 use Rattle.desk_threads.specs.declared.awaits.Awaited.{Awaited}
 use Rattle.desk_threads.specs.declared.awaits.Awaited.TheVariants as awaits
 use Rattle.desk_threads.specs.declared.limits.TheConstants.{WAITING_TICKS}
@@ -99,18 +100,6 @@ answered client number next s =
 abbrev pub heard : Answer → SessionValue → SessionValue
 heard (Committed client number place) s = answered client number (awaits.Publish place) s
 heard (Refused client number refusal) s = answered client number (awaits.Refusal refusal) s
-
--- It is one of the refusals that a node gives, whose copy takes no memory.
-abbrev pub is_of_node : Refusal → Bool
-is_of_node (refusals.NotPrimary view node) = true
-is_of_node (refusals.Stale latest) = true
-is_of_node refusals.BookFull = true
-is_of_node _ = false
-
--- The answer is a refusal whose copy may take memory; no node gives such a one.
-abbrev pub TakesMemory : Answer → Type 0
-TakesMemory (Committed client number place) = ⊥
-TakesMemory (Refused client number refusal) = is_of_node refusal ≡ false
 
 -- The session heard the answer; or memory was refused for it, and the session waits on.
 abbrev pub Hears : Answer → SessionValue → SessionValue → Type 0

@@ -4,13 +4,12 @@ ghost use Rattle.std.specs.Prelude.{◌≡◌, ◌⊎◌, List, IfOk, IfErr};
 ghost use Rattle.desk_types.specs.declared.refusal.Refusal.TheVariants as refusals;
 ghost use Rattle.desk_types.specs.Refusal.{IsStoreRefusal};
 ghost use Rattle.desk_types.specs.Refusal.{HasStored};
-ghost use Rattle.desk_threads.specs.EpochPackets.{packets_of_step};
+ghost use Rattle.desk_replica.specs.EpochPackets.{packets_of_step};
 ghost use Rattle.desk_threads.specs.SavedItems.{DoesAndSaves, DoesAndFails};
-ghost use Rattle.desk_threads.specs.Saving.{LogsGoOn, StaysSaved};
+ghost use Rattle.desk_replica.specs.Saving.{LogsGoOn, StaysSaved};
 
-use crate::item_step::ItemStep;
-use crate::saved_replica::SavedReplica;
 use desk_mailbox::Item;
+use desk_replica::{ItemStep, SavedReplica};
 use desk_types::Refusal;
 use std::alloc::Global;
 

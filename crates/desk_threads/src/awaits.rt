@@ -1,8 +1,7 @@
-//! What a session waits for, and what of an answer it takes.
+//! What a session waits for.
 
-ghost use Rattle.std.specs.Prelude.{◌≡◌, false, MatchOption};
-ghost use Rattle.std.specs.Prelude.{if◌then◌else◌, Some, None};
-ghost use Rattle.desk_threads.specs.Waiting.{is_commit, is_waiting, is_of_node};
+ghost use Rattle.std.specs.Prelude.{◌≡◌};
+ghost use Rattle.desk_threads.specs.Waiting.{is_commit, is_waiting};
 
 use desk_types::Refusal;
 
@@ -40,30 +39,5 @@ impl Awaited {
             Awaited::Publish(_) => true,
             Awaited::Refusal(_) => false,
         }
-    }
-}
-
-// A copy of a refusal that a node gives. It takes no memory.
-fn copy_of_nodes(refusal: &Refusal) -> Option<Refusal>
-    ensures { result ≡ (if is_of_node refusal.now then Some refusal.now else None) }
-{
-    match refusal {
-        Refusal::NotPrimary { view, node } => Some(Refusal::NotPrimary {
-            view: *view,
-            node: *node,
-        }),
-        Refusal::Stale { latest } => Some(Refusal::Stale { latest: *latest }),
-        Refusal::BookFull => Some(Refusal::BookFull),
-        _ => None,
-    }
-}
-
-/// A copy of a refusal. There may be no memory for one that no node gives.
-pub(crate) fn copy_refusal(refusal: &Refusal) -> Option<Refusal>
-    ensures { MatchOption result (is_of_node refusal.now ≡ false) (λ copy. copy ≡ refusal.now) }
-{
-    match copy_of_nodes(refusal) {
-        Some(copy) => Some(copy),
-        None => refusal.copy().ok(),
     }
 }

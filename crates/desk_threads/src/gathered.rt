@@ -11,13 +11,13 @@ ghost use Rattle.desk_published.specs.Writer.{published};
 
 use crate::keeper::Keeper;
 use crate::saved_node::SavedNode;
-use crate::saved_replica::SavedReplica;
 use crossbeam_utils::rule::Protocol;
 use desk_log::StateStore;
 use desk_mailbox::{GatheredMailbox, Item, Sender};
 use desk_published::{
     BoardName, BoardReader, BoardWriter, NextEntry, PrefixRule, PublishedBoard, SeatView,
 };
+use desk_replica::SavedReplica;
 use desk_types::{Entry, WantOfMemory};
 use left_right::Absorb;
 use std::sync::Wait;

@@ -3,9 +3,9 @@
 ghost use Rattle.std.specs.Prelude.{◌≡◌, IfOk};
 
 use crate::keeper::Keeper;
-use crate::saved_replica::SavedReplica;
 use crossbeam_utils::rule::Protocol;
 use desk_published::{BoardName, NextEntry, PrefixRule, PublishedBoard, SeatView};
+use desk_replica::SavedReplica;
 use desk_types::{Entry, WantOfMemory};
 use left_right::Absorb;
 use std::alloc::Global;

@@ -1,6 +1,6 @@
 //! Where packets go.
 
-ghost use Rattle.desk_threads.specs.EpochPackets.{packets_under};
+ghost use Rattle.desk_replica.specs.EpochPackets.{packets_under};
 
 use desk_types::{EpochPacket, Packet, Purpose};
 

@@ -9,18 +9,19 @@ ghost use Rattle.desk_published.specs.Writer.{published};
 ghost use Rattle.desk_types.specs.Refusal.{IsStoreRefusal};
 ghost use Rattle.desk_types.specs.Refusal.{HasStored};
 ghost use Rattle.desk_threads.specs.Filed.{goes_on_after};
-ghost use Rattle.desk_threads.specs.SavedItems.{DoesAndSaves, DoesAndFails};
-ghost use Rattle.desk_threads.specs.Saving.{LogsGoOn, StaysSaved, replica_history};
+ghost use Rattle.desk_threads.specs.SavedItems.{DoesAndForgets, DoesAndFails, RefusesAndForgets};
+ghost use Rattle.desk_replica.specs.Saving.{GoesOnAndForgets, StaysSaved};
+ghost use Rattle.desk_threads.specs.Noted.{replica_history};
 ghost use Rattle.desk_threads.specs.Telling.{TellsOfStop};
 
 use crate::act::act_and_save;
 use crate::handing::{Out, hand_all};
-use crate::item_step::ItemStep;
 use crate::keeper::Keeper;
-use crate::saved_replica::SavedReplica;
+use crate::publishing::publish_committed;
 use crate::waiting::WaitingSessions;
 use desk_mailbox::Item;
 use desk_published::BoardName;
+use desk_replica::{ItemStep, SavedReplica};
 use desk_types::Refusal;
 use std::sync::Wait;
 
@@ -54,11 +55,11 @@ impl<B: BoardName, R: SavedReplica> Keeper<B, R> {
         requires { self.stopped ≡ false }
         ensures taker { result.0.taker ≡ self.taker }
         ensures did { IfOk result.1 (λ whole. (packets : List _) × (answers : List _)
-            × DoesAndSaves R.Replica R.SavedReplica.saving self.replica item packets answers result.0.replica
+            × DoesAndForgets R.Replica R.SavedReplica.saving self.replica item packets answers result.0.replica
             × O.Out.takes out.old packets out.new) }
         // Who waits hears what was answered, and is informed of what is published then.
         ensures reported { IfOk result.1 (λ whole. (packets : List _) × (answers : List _)
-            × DoesAndSaves R.Replica R.SavedReplica.saving self.replica item packets answers result.0.replica
+            × DoesAndForgets R.Replica R.SavedReplica.saving self.replica item packets answers result.0.replica
             × HearAndAreInformed (published result.0.writer.inner) answers
             (after_item item self.waiting) result.0.waiting) }
         // At `WantOfMemory` nothing was answered, and they wait on.
@@ -72,10 +73,10 @@ impl<B: BoardName, R: SavedReplica> Keeper<B, R> {
         ensures stops { IfErr result.1 (λ r. IsStoreRefusal r → result.0.stopped ≡ true) }
         ensures first { IfErr result.1 (λ r. (r ≡ refusals.WantOfMemory) ⊎ (r ≡ refusals.StoreFault)) }
         ensures refused { IfErr result.1 (λ r. r ≡ refusals.WantOfMemory →
-            R.Replica.refuses self.replica result.0.replica) }
+            RefusesAndForgets R.Replica R.SavedReplica.saving self.replica result.0.replica) }
         ensures fault { IfErr result.1 (λ r. (r ≡ refusals.WantOfMemory) ⊎ IsStoreRefusal r) }
         ensures silent { OnErr result.1 (out.new ≡ out.old) }
-        ensures same { LogsGoOn R.SavedReplica.saving self.replica result.0.replica }
+        ensures same { GoesOnAndForgets R.SavedReplica.saving self.replica result.0.replica }
         ensures running { HasStored result.1 → result.0.stopped ≡ false }
         ensures saved { HasStored result.1 → StaysSaved R.SavedReplica.saving self.replica result.0.replica }
         // At `StoreFault` the item was done, and the save of what it made failed.
@@ -104,12 +105,7 @@ impl<B: BoardName, R: SavedReplica> Keeper<B, R> {
         let outcome = act_and_save(alloc, &mut replica, item);
         let goes_on = goes_on_after(&outcome);
         stop_unless(&mut waiting, goes_on);
-        let (writer, whole) = writer.publish_after(
-            rt,
-            replica.past_len(),
-            replica.committed(),
-            goes_on,
-        );
+        let (writer, whole) = publish_committed(rt, writer, &mut replica, goes_on);
         let answer = match outcome {
             Ok(
                 ItemStep {
@@ -184,11 +180,11 @@ impl<B: BoardName, R: SavedReplica> Keeper<B, R> {
     ) -> (Keeper<B, R>, Result<bool, Refusal>)
         ensures taker { result.0.taker ≡ self.taker }
         ensures did { IfOk result.1 (λ whole. (packets : List _) × (answers : List _)
-            × DoesAndSaves R.Replica R.SavedReplica.saving self.replica item packets answers result.0.replica
+            × DoesAndForgets R.Replica R.SavedReplica.saving self.replica item packets answers result.0.replica
             × O.Out.takes out.old packets out.new) }
         // Who waits hears what was answered, and is informed of what is published then.
         ensures reported { IfOk result.1 (λ whole. (packets : List _) × (answers : List _)
-            × DoesAndSaves R.Replica R.SavedReplica.saving self.replica item packets answers result.0.replica
+            × DoesAndForgets R.Replica R.SavedReplica.saving self.replica item packets answers result.0.replica
             × HearAndAreInformed (published result.0.writer.inner) answers
             (after_item item self.waiting) result.0.waiting) }
         // At `WantOfMemory` nothing was answered, and they wait on.
@@ -206,10 +202,10 @@ impl<B: BoardName, R: SavedReplica> Keeper<B, R> {
         ensures after { self.stopped ≡ true → (result.1 ≡ Err refusals.NodeStopped)
             × (result.0.replica ≡ self.replica) }
         ensures refused { IfErr result.1 (λ r. r ≡ refusals.WantOfMemory →
-            R.Replica.refuses self.replica result.0.replica) }
+            RefusesAndForgets R.Replica R.SavedReplica.saving self.replica result.0.replica) }
         ensures fault { IfErr result.1 (λ r. (r ≡ refusals.WantOfMemory) ⊎ IsStoreRefusal r) }
         ensures silent { OnErr result.1 (out.new ≡ out.old) }
-        ensures same { LogsGoOn R.SavedReplica.saving self.replica result.0.replica }
+        ensures same { GoesOnAndForgets R.SavedReplica.saving self.replica result.0.replica }
         ensures running { HasStored result.1 → (self.stopped ≡ false) × (result.0.stopped ≡ false) }
         ensures saved { HasStored result.1 → StaysSaved R.SavedReplica.saving self.replica result.0.replica }
         // At `StoreFault` the item was done, and the save of what it made failed.

@@ -3,17 +3,18 @@
 ghost use Rattle.std.specs.Prelude.{◌≡◌, ◌≢◌, ◌≤◌, true, false, length, take};
 ghost use Rattle.std.specs.Coded.{→_prop};
 ghost use mathlib.Core.List.{IsPrefix};
-ghost use Rattle.desk_published.specs.Writer.{EqualsPrefix, published};
-ghost use Rattle.desk_threads.specs.Saving.{replica_history};
+ghost use Rattle.desk_published.specs.Writer.{EqualsPrefix, followed_by, published};
+ghost use Rattle.desk_replica.specs.Saving.{to_publish};
+ghost use Rattle.desk_threads.specs.Noted.{replica_history};
 
 use crate::saved_node::SavedNode;
-use crate::saved_replica::SavedReplica;
 use crate::waiting::WaitingSessions;
 use crossbeam_utils::rule::Protocol;
 use desk_log::StateStore;
 use desk_mailbox::{Item, Taker};
 use desk_node::Node;
 use desk_published::{BoardName, BoardWriter, NextEntry, PrefixRule, PublishedBoard, SeatView};
+use desk_replica::SavedReplica;
 use desk_types::Entry;
 use left_right::Absorb;
 use std::alloc::Global;
@@ -39,6 +40,8 @@ where
     pub ghost past_is: { R.SavedReplica.saving.stands replica
         (take (R.SavedReplica.saving.base replica) writer.noted) } by { R.SavedReplica.saving.stands_prop replica
             (take (R.SavedReplica.saving.base replica) writer.noted) },
+    pub ghost next: { EqualsPrefix writer.noted (followed_by (R.SavedReplica.saving.base replica) writer.noted
+        (to_publish R.SavedReplica.saving replica)) },
     pub ghost noted: { EqualsPrefix writer.noted (replica_history R.SavedReplica.saving replica writer.noted) },
     pub ghost shown: { EqualsPrefix (published writer.inner)
         (replica_history R.SavedReplica.saving replica writer.noted) },

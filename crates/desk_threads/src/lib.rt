@@ -4,38 +4,33 @@
 #![tactic(auto)]
 
 mod act;
-mod answer;
 mod awaits;
 mod gathered;
 mod guard;
 mod handing;
 mod handling;
-mod item_step;
 mod keeper;
 pub mod limits;
+mod node_replica;
 mod opening;
 mod owned_node;
-mod replica;
+mod publishing;
 mod running;
 mod saved_node;
-mod saved_replica;
 mod shared_save;
 mod turn;
 mod waiting;
 mod waiting_session;
 
-pub use answer::Answer;
 pub use desk_mailbox::{Item, Sender, Taker};
 pub use desk_published::{BoardName, BoardReader, NewHistory, Reported, ReportedWord};
+pub use desk_replica::{Answer, ItemStep, Replica, SavedReplica, StepAnswers};
 pub use gathered::{Gathered, gather};
 pub use guard::KeeperGuard;
 pub use handing::{Out, hand_all};
-pub use item_step::{ItemStep, StepAnswers};
 pub use keeper::Keeper;
 pub use opening::{PEERS, SENDERS, SESSIONS, SessionEnds, TIMERS, open_keeper, open_saved};
 pub use owned_node::OwnedNode;
-pub use replica::Replica;
 pub use saved_node::SavedNode;
-pub use saved_replica::SavedReplica;
 pub use turn::TURN_ITEMS;
 pub use waiting::WaitingSessions;

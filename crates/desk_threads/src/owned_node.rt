@@ -1,21 +1,21 @@
 //! A node between the items of its mailbox. It knows no threads.
 
 ghost use Rattle.std.specs.Prelude.{◌≡◌, ◌≤◌, ◌<◌, ◌==◌, if◌then◌else◌, [], true, false, IfOk, OnOk, OnErr};
-ghost use Rattle.desk_threads.specs.declared.limits.TheConstants.{SUSPECT_TICKS};
+ghost use Rattle.desk_types.specs.declared.limits.TheConstants.{SUSPECT_TICKS};
 ghost use Rattle.desk_log.specs.Entries.{IsLogPrefix};
 ghost use Rattle.desk_log.specs.Quorum.{primary};
 ghost use Rattle.desk_log.specs.SavedValue.{committed_entries};
 ghost use Rattle.desk_mailbox.specs.declared.item.Item.TheVariants as items;
 ghost use Rattle.desk_node.specs.NodeValue.{DoesStep, IsSameNode};
-ghost use Rattle.desk_threads.specs.EpochPackets.{first_steps, is_first_step};
+ghost use Rattle.desk_replica.specs.EpochPackets.{first_steps, is_first_step};
 ghost use Rattle.desk_threads.specs.OwnedValue.{with_one_refused, DoesItem};
 ghost use Rattle.desk_threads.specs.ItemAnswers.{Answers};
 ghost use Rattle.desk_threads.specs.Keeper.{tick_event, ticks_after_tick, suspects};
 
-use crate::limits::SUSPECT_TICKS;
 use desk_log::GroupNode;
 use desk_mailbox::Item;
 use desk_node::{Event, Node, Step};
+use desk_types::limits::SUSPECT_TICKS;
 use desk_types::{EpochPacket, Purpose, WantOfMemory};
 use std::alloc::Global;
 use std::marker::Model;
@@ -41,7 +41,7 @@ impl Drop for OwnedNode {
 
 impl Model for OwnedNode {
     ghost use Rattle.std.specs.Prelude.{◌≤◌};
-    ghost use Rattle.desk_threads.specs.declared.limits.TheConstants.{SUSPECT_TICKS};
+    ghost use Rattle.desk_types.specs.declared.limits.TheConstants.{SUSPECT_TICKS};
     ghost use Rattle.desk_threads.specs.OwnedValue.{OwnedValue};
 
     ghost Value = { OwnedValue };

@@ -8,13 +8,13 @@ ghost use Rattle.desk_types.specs.declared.refusal.Refusal.TheVariants as refusa
 ghost use Rattle.desk_published.specs.Writer.{published};
 ghost use Rattle.desk_threads.specs.Runs.{Ran, RanToLast, stand, RanInTurns, RanToEnd, TakesLast, RanToTurn};
 ghost use Rattle.desk_threads.specs.Runs.{HasRunOut};
-ghost use Rattle.desk_threads.specs.Saving.{StaysSaved};
+ghost use Rattle.desk_replica.specs.Saving.{StaysSaved};
 
 use crate::handing::Out;
 use crate::keeper::Keeper;
-use crate::saved_replica::SavedReplica;
 use desk_mailbox::{Item, SentItem};
 use desk_published::BoardName;
+use desk_replica::SavedReplica;
 use desk_types::Refusal;
 use std::sync::Wait;
 

@@ -2,12 +2,10 @@
 
 ghost use Rattle.std.specs.Prelude.{◌≡◌};
 
-use crate::item_step::ItemStep;
 use crate::owned_node::OwnedNode;
-use crate::replica::Replica;
-use crate::saved_replica::SavedReplica;
 use desk_log::StateStore;
 use desk_mailbox::Item;
+use desk_replica::{ItemStep, Replica, SavedReplica};
 use desk_types::{Entry, Refusal, WantOfMemory};
 use std::alloc::Global;
 
@@ -44,12 +42,17 @@ impl<S: StateStore> Replica for SavedNode<S> {
 impl<S: StateStore> SavedReplica for SavedNode<S> {
     ghost use Rattle.desk_threads.specs.SavedNodes.{node_saving, no_past_counts, node_saved_last, node_saved_same};
     ghost use Rattle.desk_threads.specs.SavedNodes.{node_refused_saved, node_followed_on, node_saved_on};
-    ghost use Rattle.desk_threads.specs.SavedNodes.{node_failed_on, node_followed_keeps, node_saved_keeps};
+    ghost use Rattle.desk_threads.specs.SavedNodes.{node_failed_on, node_forgets, node_followed_keeps};
+    ghost use Rattle.desk_threads.specs.SavedNodes.{node_saved_keeps};
 
     ghost saving = { node_saving S.StateStore };
 
     fn past_len(&self) -> u64 {
         0
+    }
+
+    fn reported(&self) -> &[Entry] {
+        &self.owned.node().saved().log().entries()[..0]
     }
 
     fn committed(&self) -> &[Entry] {
@@ -64,6 +67,9 @@ impl<S: StateStore> SavedReplica for SavedNode<S> {
         store.save_state(owned.node().saved(), known)
     }
 
+    // Nothing is reported to a node of one log.
+    fn forget_reported(&mut self) {}
+
     ghost past_counts = { λ r past none. no_past_counts past none };
 
     ghost saved_last = { λ old new saves. node_saved_last _ old new saves };
@@ -77,6 +83,8 @@ impl<S: StateStore> SavedReplica for SavedNode<S> {
     ghost saved_on = { λ old new saves. node_saved_on _ old new saves };
 
     ghost failed_on = { λ old new fails. node_failed_on _ old new fails };
+
+    ghost forgotten_on = { λ old new same. node_forgets _ S.preserved_still old new same };
 
     ghost followed_keeps = { λ old new follows. node_followed_keeps S.keeps S.preserved_still old new follows };
 

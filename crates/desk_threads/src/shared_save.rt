@@ -15,15 +15,17 @@ ghost use Rattle.desk_threads.specs.Telling.{after_items, NotesItems, TellsOfSto
 ghost use Rattle.desk_threads.specs.Turns.{packets_of_steps, answers_of_steps, MetAndSaved};
 ghost use Rattle.desk_threads.specs.Runs.{items_in, stand, EndsInStop, TakesTurn};
 ghost use Rattle.desk_threads.specs.SavedItems.{MeetsAndFails};
-ghost use Rattle.desk_threads.specs.Saving.{IsNoted, replica_history};
+ghost use Rattle.desk_replica.specs.Saving.{MayForget};
+ghost use Rattle.desk_threads.specs.Noted.{IsNoted, replica_history};
 
 use crate::handing::Out;
 use crate::keeper::Keeper;
-use crate::saved_replica::SavedReplica;
+use crate::publishing::publish_committed;
 use crate::turn::{Turn, hand_steps};
 use crate::waiting::WaitingSessions;
 use desk_mailbox::Item;
 use desk_published::{BoardName, BoardWriter};
+use desk_replica::SavedReplica;
 use desk_types::Refusal;
 use std::alloc::Global;
 use std::sync::Wait;
@@ -82,9 +84,11 @@ fn end_saved<B: BoardName, R: SavedReplica, W: Wait, O: Out>(
 ) -> Keeper<B, R>
     requires last { R.SavedReplica.saving.is_saved turn.replica }
     requires noted { IsNoted R.SavedReplica.saving turn.replica writer.noted }
+    requires shown { EqualsPrefix (published writer.inner)
+        (replica_history R.SavedReplica.saving turn.replica writer.noted) }
     requires domain { (R.SavedReplica.saving.owner turn.replica).domain ≡ B.domain }
     ensures taker { result.taker ≡ turn.taker }
-    ensures replica { result.replica ≡ turn.replica }
+    ensures replica { MayForget R.SavedReplica.saving turn.replica result.replica }
     ensures stopped { result.stopped ≡ false }
     ensures gave { O.Out.takes out.old (packets_of_steps turn.steps.items) out.new }
     ensures grows { IsPrefix (published writer.inner) (published result.writer.inner) }
@@ -93,18 +97,13 @@ fn end_saved<B: BoardName, R: SavedReplica, W: Wait, O: Out>(
 {
     let Turn {
         taker,
-        replica,
+        mut replica,
         mut waiting,
         steps,
         late,
         is_over: _,
     } = turn;
-    let (writer, all_published) = writer.publish_after(
-        rt,
-        replica.past_len(),
-        replica.committed(),
-        true,
-    );
+    let (writer, all_published) = publish_committed(rt, writer, &mut replica, true);
     hand_steps(out, &mut waiting, steps);
     // who is answered in this turn hears so before a tick or a stop can end the wait
     waiting.tell(rt, &writer);

@@ -11,12 +11,10 @@ ghost use Rattle.desk_threads.specs.Turns.{AddsToTurn, EndsInSave};
 ghost use Rattle.desk_types.specs.declared.refusal.Refusal.TheVariants as refusals;
 
 use crate::handing::{Out, hand_all};
-use crate::item_step::ItemStep;
-use crate::replica::Replica;
-use crate::saved_replica::SavedReplica;
 use crate::waiting::WaitingSessions;
 use desk_mailbox::{Item, Taker};
 use desk_published::BoardName;
+use desk_replica::{ItemStep, Replica, SavedReplica};
 use desk_types::{Message, Refusal};
 use std::alloc::Global;
 use std::sync::Wait;

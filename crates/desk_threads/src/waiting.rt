@@ -3,15 +3,14 @@
 ghost use Rattle.std.specs.Prelude.{◌≡◌, ◌++◌, ◌∷◌, [], map, option_to_list, MatchResult};
 ghost use Rattle.std.specs.List.{AllZip};
 ghost use Rattle.desk_published.specs.Writer.{published};
-ghost use Rattle.desk_threads.specs.Answers.{session_answer, session_answers};
+ghost use Rattle.desk_replica.specs.Answers.{session_answer, session_answers};
 ghost use Rattle.desk_threads.specs.Waiting.{idle, after_tick, after_stop, after_item, Hears, HearsAll, Tells};
 
-use crate::answer::{Answer, session_answer};
-use crate::item_step::StepAnswers;
 use crate::waiting_session::WaitingSession;
 use crossbeam_channel::Sender;
 use desk_mailbox::Item;
 use desk_published::{BoardName, BoardWriter, Reported};
+use desk_replica::{Answer, StepAnswers, session_answer};
 use desk_types::{Outcome, WantOfMemory};
 use std::alloc::Global;
 use std::marker::Model;
@@ -63,20 +62,29 @@ fn each_hears<B: BoardName>(sessions: &mut Vec<WaitingSession<B>>, answer: &Answ
     }
 }
 
-fn each_hears_outcome<B: BoardName>(sessions: &mut Vec<WaitingSession<B>>, outcome: &Outcome)
-    ensures { AllZip (HearsAll (option_to_list (session_answer outcome.now))) sessions.old.items sessions.new.items }
+fn each_hears_outcome<B: BoardName>(
+    sessions: &mut Vec<WaitingSession<B>>,
+    base: u64,
+    outcome: &Outcome,
+)
+    ensures { AllZip (HearsAll (option_to_list (session_answer base outcome.now))) sessions.old.items
+        sessions.new.items }
 {
-    match session_answer(outcome) {
+    match session_answer(base, outcome) {
         Some(answer) => each_hears(sessions, &answer),
         None => {}
     }
 }
 
-fn each_hears_all<B: BoardName>(sessions: &mut Vec<WaitingSession<B>>, outcomes: &[Outcome])
-    ensures { AllZip (HearsAll (session_answers outcomes.now)) sessions.old.items sessions.new.items }
+fn each_hears_all<B: BoardName>(
+    sessions: &mut Vec<WaitingSession<B>>,
+    base: u64,
+    outcomes: &[Outcome],
+)
+    ensures { AllZip (HearsAll (session_answers base outcomes.now)) sessions.old.items sessions.new.items }
 {
     for outcome in outcomes {
-        each_hears_outcome(sessions, outcome);
+        each_hears_outcome(sessions, base, outcome);
     }
 }
 
@@ -134,7 +142,11 @@ impl<B: BoardName> WaitingSessions<B> {
     pub fn hear(&mut self, answers: &StepAnswers)
         ensures { AllZip (HearsAll answers.now) self.old self.new }
     {
-        each_hears_all(&mut self.sessions, answers.outcomes.as_slice());
+        let (base, outcomes, own) = answers.parts();
+        each_hears_all(&mut self.sessions, base, outcomes);
+        if let Some(answer) = own {
+            each_hears(&mut self.sessions, answer);
+        }
     }
 
     /// The node has stopped: all that wait are refused by `NodeStopped`.

@@ -6,14 +6,15 @@ ghost use Rattle.desk_threads.specs.declared.awaits.Awaited.TheVariants as await
 ghost use Rattle.desk_threads.specs.declared.limits.TheConstants.{WAITING_TICKS};
 ghost use Rattle.desk_threads.specs.Keeper.{one_more};
 ghost use Rattle.desk_threads.specs.Waiting.{idle, asking, awaiting, given_up, after_tick, after_stop, is_asked};
-ghost use Rattle.desk_threads.specs.Waiting.{answered, is_of_node, Hears, said, word_on, word_asked};
+ghost use Rattle.desk_threads.specs.Waiting.{answered, Hears, said, word_on, word_asked};
+ghost use Rattle.desk_replica.specs.Answers.{is_of_node};
 ghost use Rattle.desk_threads.specs.Waiting.{word_to_tell, after_word, with_unsent, after_send, Tells};
 
-use crate::answer::Answer;
-use crate::awaits::{Awaited, copy_refusal};
+use crate::awaits::Awaited;
 use crate::limits::WAITING_TICKS;
 use crossbeam_channel::{Sender, TrySendError};
 use desk_published::{BoardName, BoardWriter, Reported};
+use desk_replica::{Answer, copy_refusal};
 use desk_types::{ClientId, Refusal, RequestNumber};
 use std::marker::Model;
 use std::sync::Wait;

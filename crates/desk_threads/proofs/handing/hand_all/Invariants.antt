@@ -1,4 +1,4 @@
-use Rattle.desk_threads.specs.EpochPackets.{packets_under}
+use Rattle.desk_replica.specs.EpochPackets.{packets_under}
 use Rattle.desk_threads.proofs.handing.hand_all.Given as goal
 
 abbrev pub invariant-loop-to : goal.invariant-loop-to

@@ -1,6 +1,6 @@
 use Rattle.std.proofs.Common.{◌∙◌, ◌∷◌, [], ap, length, List, subst, sym}
 use Rattle.desk_mailbox.specs.Ends.{taken_by}
-use Rattle.desk_threads.specs.declared.item_step.ItemStep.{ItemStep}
+use Rattle.desk_replica.specs.declared.item_step.ItemStep.{ItemStep}
 use Rattle.desk_threads.specs.Runs.{items_in}
 use Rattle.desk_threads.specs.Telling.{NotesItems}
 use Rattle.desk_threads.specs.Turns.{MetMore}

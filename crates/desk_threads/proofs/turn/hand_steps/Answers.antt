@@ -1,5 +1,5 @@
 use Rattle.std.proofs.Common.{refl}
-use Rattle.desk_threads.specs.EpochPackets.{packets_of_step}
+use Rattle.desk_replica.specs.EpochPackets.{packets_of_step}
 use Rattle.desk_threads.proofs.TurnSteps.{gave_push, heard_push}
 use Rattle.desk_threads.proofs.TurnTelling.{hears_none}
 use Rattle.desk_threads.proofs.turn.hand_steps.Goals as goal

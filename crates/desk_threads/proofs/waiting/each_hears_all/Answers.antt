@@ -8,7 +8,7 @@ loop-outcome-init g c = hears_none c.args.sessions.now.items
 pub loop-outcome-preserved : goal.loop-outcome-preserved
 loop-outcome-preserved g c =
     let loop = c.loop-outcome in
-    hears_next c.args.outcomes.now loop.outcome-index c.outcome-item.result c.args.sessions.now.items
+    hears_next c.args.base c.args.outcomes.now loop.outcome-index c.outcome-item.result c.args.sessions.now.items
     loop.sessions.items c.each_hears_outcome.new.sessions.items
     (omega (arith, c.loop-outcome-test.true, loop.auto.outcome-index-end)) c.outcome-item.is loop.invariant
     c.each_hears_outcome.ensures

@@ -3,8 +3,8 @@
 use super::super::keeping::{Given, Keeps, Made, PREPARE, START_VIEW, Stand, give};
 use super::super::near::{Heard, Serves};
 use super::over::{DrivesRows, Ended, is_done_in_memory};
-use desk_threads::limits::SUSPECT_TICKS;
 use desk_types::Purpose;
+use desk_types::limits::SUSPECT_TICKS;
 use std::alloc::Global;
 
 /// An item, and what it comes to where there is memory.

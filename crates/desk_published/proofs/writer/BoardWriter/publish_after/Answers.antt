@@ -15,3 +15,13 @@ returns-then-not-wanted-clause-published g c =
 
 pub returns-then-not-wanted-clause-grows : goal.returns-then-not-wanted-clause-grows
 returns-then-not-wanted-clause-grows g c = ([], append-nil (published c.args.self.inner))
+
+pub returns-then-not-wanted-clause-held : goal.returns-then-not-wanted-clause-held
+returns-then-not-wanted-clause-held g c =
+    let w = c.args.self in
+    prefix_more (published w.inner) _ w.noted w.all
+
+pub returns-clause-held : goal.returns-clause-held
+returns-clause-held g c =
+    let w = c.publish_noted.result.0 in
+    prefix_more (published w.inner) _ w.noted w.all

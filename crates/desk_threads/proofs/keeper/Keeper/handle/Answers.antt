@@ -1,7 +1,6 @@
-use Rattle.std.proofs.Common.{[], ◌∙◌, append-nil, ap, sym, subst}
+use Rattle.std.proofs.Common.{[], ◌∙◌, append-nil, ap, sym, inl}
 use Rattle.desk_published.proofs.PrefixEquations.{is_prefix}
 use Rattle.desk_published.specs.Writer.{published}
-use Rattle.desk_threads.specs.Saving.{LogsGoOn}
 use Rattle.desk_threads.proofs.keeper.Keeper.handle.Goals as goal
 
 pub returns-then-self-clause-shown : goal.returns-then-self-clause-shown
@@ -15,7 +14,9 @@ returns-then-self-clause-grows g c = (
 )
 
 pub returns-then-self-clause-same : goal.returns-then-self-clause-same
-returns-then-self-clause-same g c =
-    subst (λ r. LogsGoOn g.R.SavedReplica.saving c.args.self.replica r) (sym c.refuse-keeper.ensures.replica)
-    (g.met.R.SavedReplica.followed_on c.args.self.replica c.args.self.replica
-    (g.met.R.Replica.follows_still c.args.self.replica))
+returns-then-self-clause-same g c = (
+  c.args.self.replica,
+  g.met.R.SavedReplica.followed_on c.args.self.replica c.args.self.replica
+      (g.met.R.Replica.follows_still c.args.self.replica),
+  inl c.refuse-keeper.ensures.replica,
+)

@@ -8,5 +8,5 @@ returns-clause-failed g c =
     (λ fault. turn_to_last g.O.Out g.R.Replica g.R.SavedReplica.saving g.met.O.Out.takes_none g.met.O.Out.takes_then
     (λ r. g.met.R.SavedReplica.followed_keeps r r (g.met.R.Replica.follows_still r))
     g.met.R.SavedReplica.keeps_further g.met.R.SavedReplica.followed_keeps g.met.R.SavedReplica.saved_keeps
-    fault _ _ _ _)
+    g.met.R.SavedReplica.forgotten_on fault _ _ _ _)
     c.run_turns.ensures.failed

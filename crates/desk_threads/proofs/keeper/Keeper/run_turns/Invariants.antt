@@ -2,7 +2,7 @@ use Rattle.std.proofs.Common.{◌≡◌, false}
 use Rattle.desk_mailbox.specs.Ends.{taken_by, IsSameTaker}
 use Rattle.desk_published.specs.Writer.{published}
 use Rattle.desk_threads.specs.Runs.{stand, RanInTurns}
-use Rattle.desk_threads.specs.Saving.{StaysSaved}
+use Rattle.desk_replica.specs.Saving.{StaysSaved}
 use Rattle.desk_threads.proofs.keeper.Keeper.run_turns.Given as goal
 
 abbrev pub invariant-loop : goal.invariant-loop

@@ -26,7 +26,12 @@ end_saved-keeper-requires-clause-noted g c =
     c.act_all_and_save-turn.result.0.replica c.new-turn.result.steps.items
     c.act_all_and_save-turn.result.0.steps.items (c.args.item ∷ items_in c.act_all_and_save-turn.ensures.did.0)
     c.act_all_and_save-turn.result.1 c.new-turn.ensures.replica c.act_all_and_save-turn.ensures.did.3)
-    (record { past_noted = c.args.self.past_noted; past_is = c.args.self.past_is; begins = c.args.self.noted })
+    (record {
+      past_noted = c.args.self.past_noted;
+      past_is = c.args.self.past_is;
+      next = c.args.self.next;
+      begins = c.args.self.noted;
+    })
 
 pub end_saved-keeper-requires-clause-domain : goal.end_saved-keeper-requires-clause-domain
 end_saved-keeper-requires-clause-domain g c =
@@ -46,7 +51,12 @@ end_unsaved-keeper-requires-clause-noted g c =
     c.act_all_and_save-turn.result.0.replica c.new-turn.result.steps.items
     c.act_all_and_save-turn.result.0.steps.items (c.args.item ∷ items_in c.act_all_and_save-turn.ensures.did.0)
     c.act_all_and_save-turn.result.1 c.new-turn.ensures.replica c.act_all_and_save-turn.ensures.did.3)
-    (record { past_noted = c.args.self.past_noted; past_is = c.args.self.past_is; begins = c.args.self.noted })
+    (record {
+      past_noted = c.args.self.past_noted;
+      past_is = c.args.self.past_is;
+      next = c.args.self.next;
+      begins = c.args.self.noted;
+    })
 
 pub end_unsaved-keeper-requires-clause-domain : goal.end_unsaved-keeper-requires-clause-domain
 end_unsaved-keeper-requires-clause-domain g c =
@@ -60,6 +70,16 @@ end_unsaved-keeper-requires-clause-domain g c =
 
 pub end_unsaved-keeper-requires-clause-shown : goal.end_unsaved-keeper-requires-clause-shown
 end_unsaved-keeper-requires-clause-shown g c =
+    front_on g.R.SavedReplica.saving c.args.self.replica _ c.args.self.writer.noted (published c.args.self.writer.inner)
+    (turn_on g.R.Replica g.R.SavedReplica.saving g.met.R.SavedReplica.followed_on g.met.R.SavedReplica.saved_on
+    g.met.R.SavedReplica.failed_on c.args.self.replica c.new-turn.result.replica
+    c.act_all_and_save-turn.result.0.replica c.new-turn.result.steps.items
+    c.act_all_and_save-turn.result.0.steps.items (c.args.item ∷ items_in c.act_all_and_save-turn.ensures.did.0)
+    c.act_all_and_save-turn.result.1 c.new-turn.ensures.replica c.act_all_and_save-turn.ensures.did.3)
+    c.args.self.shown
+
+pub end_saved-keeper-requires-clause-shown : goal.end_saved-keeper-requires-clause-shown
+end_saved-keeper-requires-clause-shown g c =
     front_on g.R.SavedReplica.saving c.args.self.replica _ c.args.self.writer.noted (published c.args.self.writer.inner)
     (turn_on g.R.Replica g.R.SavedReplica.saving g.met.R.SavedReplica.followed_on g.met.R.SavedReplica.saved_on
     g.met.R.SavedReplica.failed_on c.args.self.replica c.new-turn.result.replica
@@ -89,12 +109,12 @@ returns-in-Ok-clause-did g c =
           (stand c.args.self.replica c.args.self.waiting (published c.args.self.writer.inner)
           c.args.self.all_published c.args.out.now)
           (stand keeper.replica keeper.waiting (published keeper.writer.inner)
-          keeper.all_published c.end_saved-keeper.new.out) d.3.0 turn.waiting turn.late
+          keeper.all_published c.end_saved-keeper.new.out) d.3.0 turn.replica turn.waiting turn.late
           (take (s.base keeper.replica) keeper.writer.noted) d.1 d.5 c.new-turn.ensures.steps
           (subst (λ r. MetMore g.R.Replica r first.steps.items items d.3.0 turn.steps.items)
           c.new-turn.ensures.replica d.3.1)
           (subst (λ r. g.R.Replica.follows r d.3.0) c.new-turn.ensures.replica d.3.2)
-          (subst (s.saves d.3.0) (sym c.end_saved-keeper.ensures.replica) saves)
+          saves c.end_saved-keeper.ensures.replica
           (subst (λ w. NotesItems items w turn.waiting turn.late) c.new-turn.ensures.waiting d.4)
           c.end_saved-keeper.ensures.gave c.end_saved-keeper.ensures.grows keeper.past_is
           (is_prefix _ _ keeper.shown)

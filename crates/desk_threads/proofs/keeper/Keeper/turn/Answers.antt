@@ -3,7 +3,7 @@ use Rattle.desk_mailbox.specs.Ends.{taken_by, no_sender_left, IsSameTaker}
 use Rattle.desk_mailbox.specs.declared.item.Item.TheVariants as items
 use Rattle.desk_published.specs.Writer.{published}
 use Rattle.desk_threads.specs.Runs.{stand}
-use Rattle.desk_threads.specs.Saving.{StaysSaved}
+use Rattle.desk_replica.specs.Saving.{StaysSaved}
 use Rattle.desk_threads.proofs.KeeperRuns.{stays_same, if_some}
 use Rattle.desk_threads.proofs.KeeperTurns.{turns_stopped, turns_one, turns_end, took_last, refused_last}
 use Rattle.desk_threads.proofs.KeeperTurns.{stand_same, reported_same, took_stop, turn_stays}
@@ -119,7 +119,9 @@ returns-else-keeper-clause-saved g c = λ works.
       still,
       subst (λ r. StaysSaved g.R.SavedReplica.saving r c.serve_turn.result.0.replica) c.take-keeper.ensures.replica
           (turn_stays g.O.Out g.R.Replica g.R.SavedReplica.saving g.met.R.SavedReplica.saved_last
-          g.met.R.SavedReplica.keeps_further g.met.R.SavedReplica.followed_keeps g.met.R.SavedReplica.saved_keeps
+          g.met.R.SavedReplica.keeps_further
+          (λ r. g.met.R.SavedReplica.followed_keeps r r (g.met.R.Replica.follows_still r))
+          g.met.R.SavedReplica.followed_keeps g.met.R.SavedReplica.saved_keeps g.met.R.SavedReplica.forgotten_on
           c.args.most _ _ _ took.2),
     ))
     c.serve_turn.ensures.did c.serve_turn.ensures.running

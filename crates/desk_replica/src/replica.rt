@@ -1,7 +1,6 @@
 //! What a keeper does its items to.
 
 use crate::item_step::ItemStep;
-use crate::owned_node::OwnedNode;
 use desk_mailbox::Item;
 use desk_types::WantOfMemory;
 use std::alloc::Global;
@@ -12,8 +11,8 @@ pub trait Replica {
     ghost use Rattle.std.specs.Prelude.{ℕ, List, IfOk, OnErr};
     ghost use Rattle.desk_types.specs.declared.epoch_packet.EpochPacket.{EpochPacket};
     ghost use Rattle.desk_mailbox.specs.declared.item.Item.{Item as AnItem};
-    ghost use Rattle.desk_threads.specs.declared.answer.Answer.{Answer};
-    ghost use Rattle.desk_threads.specs.EpochPackets.{packets_of_step};
+    ghost use Rattle.desk_replica.specs.declared.answer.Answer.{Answer};
+    ghost use Rattle.desk_replica.specs.EpochPackets.{packets_of_step};
 
     /// The item made this of it; these packets go out for it, and this is what it answers.
     ghost does: { Self → AnItem → List (ℕ × EpochPacket) → List Answer → Self → Type 0 };
@@ -40,31 +39,4 @@ pub trait Replica {
 
     /// And over two parts of a time where it does over each.
     ghost follows_further: { (old mid new : Self) → follows old mid → follows mid new → follows old new };
-}
-
-impl Replica for OwnedNode {
-    ghost use Rattle.desk_threads.specs.NodeReplica.{NodeDoes, NodeFollows, NodeRefuses};
-    ghost use Rattle.desk_threads.specs.NodeInOrder.{node_still, node_further};
-
-    ghost does = { NodeDoes };
-
-    ghost refuses = { NodeRefuses };
-
-    ghost follows = { NodeFollows };
-
-    fn do_item(&mut self, alloc: Global, item: Item) -> Result<ItemStep, WantOfMemory> {
-        match self.act(alloc, item) {
-            Ok(step) => Ok(ItemStep::of_node(step)),
-            Err(refused) => Err(refused),
-        }
-    }
-
-    #[tactic(auto, using(crate::proofs::ReplicaItems::node_refused))]
-    fn count_refused(&mut self) {
-        self.refuse();
-    }
-
-    ghost follows_still = { node_still };
-
-    ghost follows_further = { node_further };
 }

@@ -1,14 +1,11 @@
 -- Packets with the epoch that they are of, and what they are for.
-use Rattle.std.specs.Prelude.{ℕ, ◌==◌, ◌&&◌, Bool, true, false, List, map}
+use Rattle.std.specs.Prelude.{ℕ, ◌==◌, ◌&&◌, Bool, List, map}
 use Rattle.desk_types.specs.declared.epoch_packet.EpochPacket.{EpochPacket}
 use Rattle.desk_types.specs.declared.epoch_packet.Purpose.{Purpose}
-use Rattle.desk_types.specs.declared.epoch_packet.Purpose.TheVariants.{Step, Ask, Tell}
+use Rattle.desk_types.specs.declared.epoch_packet.Purpose.TheVariants.{Step}
 use Rattle.desk_types.specs.declared.packet.Message.{Message}
-use Rattle.desk_threads.specs.declared.item_step.ItemStep.{ItemStep}
-
--- a packet of this epoch, for this
-abbrev pub packet_under : ℕ → Purpose → Message → EpochPacket
-packet_under epoch purpose message = record { epoch = epoch; purpose = purpose; packet = message }
+use Rattle.desk_types.specs.EpochPackets.{packet_under, goes_by_rules}
+use Rattle.desk_replica.specs.declared.item_step.ItemStep.{ItemStep}
 
 -- packets, each with its receiver, all of this epoch and for this
 abbrev pub packets_under : ℕ → Purpose → List (ℕ × Message) → List (ℕ × EpochPacket)
@@ -21,12 +18,6 @@ first_steps packets = packets_under 0 Step packets
 -- the packets of a step, with its epoch and what they are for
 abbrev pub packets_of_step : ItemStep → List (ℕ × EpochPacket)
 packets_of_step step = packets_under step.epoch step.purpose step.packets.items
-
--- whether a packet goes by the rules of its epoch
-abbrev pub goes_by_rules : Purpose → Bool
-goes_by_rules Step = true
-goes_by_rules Ask = false
-goes_by_rules Tell = false
 
 -- whether a packet goes by the rules of the first epoch
 abbrev pub is_first_step : EpochPacket → Bool

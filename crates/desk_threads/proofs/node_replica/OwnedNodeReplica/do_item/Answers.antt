@@ -1,7 +1,7 @@
 use Rattle.std.proofs.Common.{ℕ, List, sym, subst}
 use Rattle.desk_types.specs.declared.epoch_packet.EpochPacket.{EpochPacket}
 use Rattle.desk_threads.specs.OwnedValue.{DoesItem}
-use Rattle.desk_threads.proofs.replica.OwnedNodeReplica.do_item.Goals as goal
+use Rattle.desk_threads.proofs.node_replica.OwnedNodeReplica.do_item.Goals as goal
 
 pub returns-in-Ok-clause-did : goal.returns-in-Ok-clause-did
 returns-in-Ok-clause-did c = (

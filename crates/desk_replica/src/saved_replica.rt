@@ -3,13 +3,13 @@
 use crate::replica::Replica;
 use desk_types::{Entry, Refusal};
 
-/// A replica whose state is saved. All that it has committed are the logs of its past, and what it has committed after
-/// them.
+/// A replica whose state is saved. All that it has committed are the logs of its past, a log after them that another
+/// node reported to it, as long as not all of that is published, and what it has committed after it.
 pub trait SavedReplica: Replica {
     ghost use Rattle.std.specs.Prelude.{◌≡◌, List, length, MatchResult};
     ghost use Rattle.desk_types.specs.declared.command.Entry.{Entry as AnEntry};
     ghost use Rattle.desk_types.specs.declared.refusal.Refusal.TheVariants as refusals;
-    ghost use Rattle.desk_threads.specs.Saving.{Saving, LogsGoOn};
+    ghost use Rattle.desk_replica.specs.Saving.{Saving, LogsGoOn, ForgetsReported};
 
     /// Its logs, and what its saves make of it.
     ghost saving: { Saving Self };
@@ -18,7 +18,11 @@ pub trait SavedReplica: Replica {
     fn past_len(&self) -> u64
         ensures { result ≡ saving.base self.now };
 
-    /// What it has committed after them.
+    /// The log after them that another node reported to it, as long as not all of it is published; else no entries.
+    fn reported(&self) -> &[Entry]
+        ensures { result.now ≡ saving.reported self.now };
+
+    /// What it has committed after that.
     fn committed(&self) -> &[Entry]
         ensures { result.now ≡ saving.cut self.now };
 
@@ -30,6 +34,11 @@ pub trait SavedReplica: Replica {
         ensures { MatchResult result (λ _. saving.saves self.old self.new)
             (λ r. saving.fails self.old self.new × (r ≡ refusals.StoreFault)) };
 
+    /// Notes that all of the log that was reported to it is published. From then on that is the last log of its past.
+    fn forget_reported(&mut self)
+        requires { saving.is_saved self.old }
+        ensures { saving.forgets self.old self.new };
+
     /// The logs of its past have so many entries.
     ghost past_counts: { (r : Self) (past : List AnEntry) → saving.stands r past → length past ≡ saving.base r };
 
@@ -38,7 +47,8 @@ pub trait SavedReplica: Replica {
 
     /// A save changes nothing of what is committed.
     ghost saved_same: { (old new : Self) → saving.saves old new →
-        (saving.base new ≡ saving.base old) × (saving.cut new ≡ saving.cut old) };
+        (saving.base new ≡ saving.base old) × (saving.reported new ≡ saving.reported old)
+        × (saving.cut new ≡ saving.cut old) };
 
     /// An item that was refused changes nothing of what is saved.
     ghost refused_saved: { (old new : Self) → Self.Replica.refuses old new → saving.is_saved old →
@@ -52,6 +62,9 @@ pub trait SavedReplica: Replica {
 
     /// Nor does one that failed.
     ghost failed_on: { (old new : Self) → saving.fails old new → LogsGoOn saving old new };
+
+    /// A log that was reported and published is one of its past.
+    ghost forgotten_on: { (old new : Self) → saving.forgets old new → ForgetsReported saving old new };
 
     /// Items in memory change nothing of what its store is to keep.
     ghost followed_keeps: { (old new : Self) → Self.Replica.follows old new → saving.keeps old new };
