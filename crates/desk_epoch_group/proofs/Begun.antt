@@ -1,6 +1,6 @@
 -- What the node of an epoch does, and how a node begins the next, as steps of a desk over epochs.
-use Rattle.std.proofs.Common.{◌≡◌, ◌⊎◌, ℕ, suc, ◌+◌, ◌<◌, ◌≤◌, true, false}
-use Rattle.std.proofs.Common.{List, [], ◌∷◌, ◌++◌, length, map, take, refl, sym, ap}
+use Rattle.std.proofs.Common.{◌≡◌, ℕ, suc, ◌+◌, ◌<◌, ◌≤◌, Bool, true, false}
+use Rattle.std.proofs.Common.{List, [], ◌∷◌, ◌++◌, length, map, refl, sym, ap}
 use Rattle.std.proofs.Common.{◌∙◌}
 use Rattle.std.proofs.Common.{inl, inr, ⊎_elim, subst, arith}
 use Rattle.std.specs.List.{Contains}
@@ -25,7 +25,7 @@ use Rattle.desk_world.specs.World.{World, world, first_state, node_of_world}
 use Rattle.desk_world.specs.declared.world_event.WorldEvent.{WorldEvent}
 use Rattle.desk_world.proofs.Packets.{Contains-none, Contains-here, Contains-there, Contains-cases}
 use Rattle.desk_epochs.specs.Epochs.{Epochs, joined_logs, epoch_of, GoesOver, NextEpochs}
-use Rattle.desk_epochs.specs.Histories.{committed_in, has_ended, epoch_log}
+use Rattle.desk_epochs.specs.Histories.{committed_in}
 use Rattle.desk_epochs.proofs.Epochs.{joined_push}
 use Rattle.desk_epochs.proofs.StepsAtUp.{with_log, goes_over}
 use Rattle.desk_types.specs.declared.epoch_packet.EpochPacket.{EpochPacket}
@@ -33,10 +33,11 @@ use Rattle.desk_epoch_node.specs.declared.step.EpochStep.{EpochStep}
 use Rattle.desk_epoch_node.specs.declared.step.EpochStep.TheVariants as steps
 use Rattle.desk_epoch_node.specs.Does.{BeginsAfter, IsOwn}
 use Rattle.desk_epoch_node.specs.Does.{is_due, next_view, node_in_view}
-use Rattle.desk_epoch_node.specs.EpochValue.{EpochValue, committed_cut, has_next, reaches_end}
+use Rattle.desk_epoch_node.specs.Ends.{cut_of, reaches_end}
+use Rattle.desk_epoch_node.specs.EpochValue.{EpochValue, acts, committed_cut, has_next}
 use Rattle.desk_epoch_node.specs.Laws.{suspected}
 use Rattle.desk_epoch_node.specs.PastRows.{PastValue, StandFor}
-use Rattle.desk_epoch_node.proofs.EpochEnds.{ends_by_count, suspicions_lead}
+use Rattle.desk_epoch_node.proofs.EpochEnds.{suspicions_lead}
 use Rattle.desk_epoch_group.specs.Agreement.{ending_after}
 use Rattle.desk_epoch_group.specs.Group.{EpochNodes, started_again}
 use Rattle.desk_epoch_group.specs.Group.{NodeBecomes}
@@ -120,7 +121,9 @@ own_goes_on domain n most Came i old new d event value (steps.Known client numbe
 own_goes_on domain n most Came i old new d event value (steps.Refused client number refusal) g o b m = absurd o
 own_goes_on domain n most Came i old new d event value (steps.Deferred entry) g o b m = absurd o
 own_goes_on domain n most Came i old new d event value (steps.Ask to packet) g o b m = absurd o
+own_goes_on domain n most Came i old new d event value (steps.AskAll packets) g o b m = absurd o
 own_goes_on domain n most Came i old new d event value (steps.Tell to epoch base) g o b m = absurd o
+own_goes_on domain n most Came i old new d event value steps.Replaced g o b m = absurd o
 own_goes_on domain n most Came i old new d event value (steps.Began log packets) g o b m = absurd o
 
 -- The node stays as it is, and what it sends is of what it has behind it.
@@ -243,6 +246,10 @@ first_node_is domain n i view node p q r =
     ∙ (ap (λ (x : ℕ). node_in_view domain x node.n view) q
     ∙ ap (λ (x : ℕ). node_in_view domain i x view) r)
 
+view_below : (acting : Bool) (node : NodeValue) → 0 < node.n → next_view acting node < node.n
+view_below true node some = mod-lt node.saved.view some
+view_below false node some = some
+
 -- Node i begins the next epoch after a log that the desk lets it have behind it.
 pub begun_goes_on : (domain : List ℕ) (n most : ℕ) (Came : Entry → Type 0) (i : ℕ) (old new : EpochNodes) (d : Epochs)
     (log : List Entry) (value : EpochValue) (packets : List (ℕ × Message)) → IsGroupSize n →
@@ -253,8 +260,8 @@ pub begun_goes_on : (domain : List ℕ) (n most : ℕ) (Came : Entry → Type 0)
 begun_goes_on domain n most Came i old new d log value packets size g begun next b =
     let a = g.nodes i in
     let node : NodeValue = (old.values i).node in
-    let view : ℕ = next_view node in
-    let below : view < node.n = mod-lt node.saved.view (omega (arith, a.node.n_is, size.0.least)) in
+    let view : ℕ = next_view (acts value) node in
+    let below : view < node.n = view_below (acts value) node (omega (arith, a.node.n_is, size.0.least)) in
     let within : view ≤ LAST_VIEW = omega (arith, below, a.node.n_is, size.1) in
     let sent : packets ≡ view_requests i n 0 view =
     begun.packets_are ∙ (ap (λ (x : ℕ). view_requests x node.n 0 view) a.node.id_is
@@ -292,15 +299,13 @@ due_next domain n most Came i old d g due =
     let own : committed_entries e.node.saved ≡ committed_in domain n (d.runs (epoch_of d i)) i =
     ap (λ (s : SavedValue). committed_entries s) a.node.saved_is
     ∙ ap (λ k. committed_in domain n (d.runs k) i) at in
-    let ended : has_ended (λ x. false) most (committed_in domain n (d.runs (epoch_of d i)) i) ≡ true =
-    (ends_by_count most (committed_in domain n (d.runs (epoch_of d i)) i)).0
-    ∙ (ap (λ (es : List Entry). reaches_end most es) (sym own)
+    let ended : reaches_end most (committed_in domain n (d.runs (epoch_of d i)) i) ≡ true =
+    ap (λ (es : List Entry). reaches_end most es) (sym own)
     ∙ (ap (λ k. reaches_end k (committed_entries e.node.saved)) (sym a.most_is)
-    ∙ (and_parts (reaches_end e.most (committed_entries e.node.saved)) (has_next e) due).0)) in
-    let cut_is : cut ≡ epoch_log (λ x. false) most (committed_in domain n (d.runs (epoch_of d i)) i) =
-    ap (λ k. take k (committed_entries e.node.saved)) a.most_is
-    ∙ (ap (λ (es : List Entry). take most es) own
-    ∙ sym (ends_by_count most (committed_in domain n (d.runs (epoch_of d i)) i)).1) in
+    ∙ (and_parts (reaches_end e.most (committed_entries e.node.saved)) (has_next e) due).0) in
+    let cut_is : cut ≡ cut_of most (committed_in domain n (d.runs (epoch_of d i)) i) =
+    ap (λ k. cut_of k (committed_entries e.node.saved)) a.most_is
+    ∙ ap (λ (es : List Entry). cut_of most es) own in
     inr (inl (record {
       node = i;
       over = ended;

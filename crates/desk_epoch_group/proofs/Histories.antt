@@ -1,5 +1,5 @@
 -- What nodes have committed of all epochs is what they have committed in the desk for which they stand.
-use Rattle.std.proofs.Common.{◌≡◌, ◌⊎◌, ◌≤◌, ℕ, ◌+◌, false, List, [], ◌++◌, length, take, refl, sym, ap}
+use Rattle.std.proofs.Common.{◌≡◌, ◌⊎◌, ◌≤◌, ℕ, ◌+◌, List, [], ◌++◌, length, take, refl, sym, ap}
 use Rattle.std.proofs.Common.{◌∙◌, Some, subst, arith}
 use Rattle.std.specs.List.{Contains}
 use Rattle.desk_types.specs.declared.command.Entry.{Entry}
@@ -10,15 +10,15 @@ use Rattle.desk_board.specs.Log.{board_of}
 use Rattle.desk_log.specs.SavedValue.{SavedValue, committed_entries}
 use Rattle.desk_world.specs.Agreement.{IsReplyAt}
 use Rattle.desk_epochs.specs.Epochs.{Epochs, first_epochs, joined_logs, committed_history}
-use Rattle.desk_epochs.specs.Histories.{epoch_log, committed_in, history}
+use Rattle.desk_epochs.specs.Histories.{committed_in, history}
 use Rattle.desk_epochs.proofs.DeskNeverStuck.{history_is}
 use Rattle.desk_epochs.proofs.Epochs.{epochs_agree, epochs_rise}
 use Rattle.desk_world.specs.Requested.{IsRequested}
 use Rattle.desk_epochs.proofs.RequestedHistories.{entries_requested}
 use Rattle.desk_epochs.proofs.EpochBoards.{epoch_boards_agree, epoch_identifiers_stay, epoch_replies_agree}
 use Rattle.desk_board.proofs.LogBoards.{board_of-consistent}
+use Rattle.desk_epoch_node.specs.Ends.{cut_of}
 use Rattle.desk_epoch_node.specs.EpochValue.{EpochValue, committed_cut}
-use Rattle.desk_epoch_node.proofs.EpochEnds.{ends_by_count}
 use Rattle.desk_epoch_group.specs.Agreement.{AreOfEpochs, IsOfEpochs, NodesMakeEpochs, ending_after}
 use Rattle.desk_epoch_group.specs.Agreement.{NodeHistoriesAgree, NodeHistoriesRise, NodeBoardsAgree}
 use Rattle.desk_epoch_group.specs.Agreement.{NodeBoardsConsistent, NodeIdentifiersStay, NodeRepliesAgree}
@@ -35,13 +35,12 @@ stands_of domain n most Came g d s i =
     let value : EpochValue = g.values i in
     let past : List Entry = joined_logs (g.logs i) in
     let own : List Entry = committed_in domain n (d.runs value.epoch) i in
-    let cut : committed_cut value ≡ epoch_log (λ e. false) most own =
-    ap (λ k. take k (committed_entries value.node.saved)) a.most_is
-    ∙ (ap (λ (x : SavedValue). take most (committed_entries x)) a.node.saved_is
-    ∙ sym (ends_by_count most own).1) in
+    let cut : committed_cut value ≡ cut_of most own =
+    ap (λ k. cut_of k (committed_entries value.node.saved)) a.most_is
+    ∙ ap (λ (x : SavedValue). cut_of most (committed_entries x)) a.node.saved_is in
     let at : value.epoch ≡ 0 + length (g.logs i) = omega (arith, a.epoch_is) in
     ap (λ (es : List Entry). past ++ es) cut
-    ∙ (ap (λ k. past ++ epoch_log (λ e. false) most (committed_in domain n (d.runs k) i)) at
+    ∙ (ap (λ k. past ++ cut_of most (committed_in domain n (d.runs k) i)) at
     ∙ (sym (history_is domain (ending_after most) (λ e. n) d.runs 0 (g.logs i) i)
     ∙ ap (λ (ls : List (List Entry)). history domain (ending_after most) (λ e. n) d.runs 0 ls i) (sym a.pasts_are)))
 

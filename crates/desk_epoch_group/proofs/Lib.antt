@@ -3,5 +3,7 @@ pub mod Leads
 pub mod Requests
 pub mod Standing
 pub mod Begun
+pub mod Meeting
+pub mod StartedAgain
 pub mod GroupEpochs
 pub mod Histories

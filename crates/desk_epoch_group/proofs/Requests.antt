@@ -32,7 +32,8 @@ use Rattle.desk_epochs.proofs.DeskNeverStuck.{below_latest}
 use Rattle.desk_epochs.proofs.Epochs.{epochs_rise}
 use Rattle.desk_epochs.proofs.OneLog.{epochs_are_one_log}
 use Rattle.desk_epoch_node.specs.declared.deed.Deed.{Deed}
-use Rattle.desk_epoch_node.specs.declared.deed.Deed.TheVariants.{Ignore, Own, Answer, Refuse, Keep, Ask, Tell, Take}
+use Rattle.desk_epoch_node.specs.declared.deed.Deed.TheVariants.{Ignore, Own, Answer, Refuse, Keep, Ask, AskAll, Tell}
+use Rattle.desk_epoch_node.specs.declared.deed.Deed.TheVariants.{Take, Stop}
 use Rattle.desk_epoch_node.specs.Deeds.{deed_by, deed_here, looks_back, request_deed}
 use Rattle.desk_epoch_node.specs.EpochValue.{EpochValue}
 use Rattle.desk_epoch_node.specs.PastRows.{has_room, one_log_admission}
@@ -138,6 +139,8 @@ IsNotOwn (Keep entry) = Unit {0}
 IsNotOwn (Ask to) = Unit {0}
 IsNotOwn (Tell to epoch base) = Unit {0}
 IsNotOwn (Take base entries) = Unit {0}
+IsNotOwn AskAll = Unit {0}
+IsNotOwn Stop = Unit {0}
 
 -- what a log admits has a greater number than its client's latest entry there
 admitted_number : (log : List Entry) (number place : ℕ) → admission_after log number (Some place) ≡ Append →

@@ -1,5 +1,5 @@
 -- What holds in every group of nodes over epochs, whatever happens in it.
-use Rattle.std.specs.Prelude.{◌≡◌, ◌⊎◌, ◌<◌, ◌≤◌, ℕ, false, List, ◌++◌, length, take, Some, Contains}
+use Rattle.std.specs.Prelude.{◌≡◌, ◌⊎◌, ◌<◌, ◌≤◌, ℕ, List, ◌++◌, length, take, Some, Contains}
 use Rattle.desk_types.specs.Group.{IsGroupSize}
 use Rattle.desk_types.specs.Identifier.{IsLowerDomain}
 use Rattle.desk_types.specs.declared.command.Entry.{Entry}
@@ -12,11 +12,12 @@ use Rattle.desk_world.specs.Agreement.{IsReplyAt}
 use Rattle.desk_epochs.specs.Epochs.{Epochs, first_epochs, StepsLead, committed_history}
 use Rattle.desk_epochs.specs.Histories.{Ending}
 use Rattle.desk_epoch_node.specs.declared.event.EpochEvent.TheVariants.{Request}
+use Rattle.desk_epoch_node.specs.Replacements.{ends_epoch}
 use Rattle.desk_epoch_group.specs.Group.{EpochNodes, EpochAct, Meets, ActsLead, first_epoch_nodes, history_of}
 
--- Epochs end after so many entries, and by no entry of itself.
+-- Epochs end after so many entries, and after one that names a replacement.
 abbrev pub ending_after : ℕ → Ending
-ending_after most = record { ends = λ e. false; most = most }
+ending_after most = record { ends = ends_epoch; most = most }
 
 -- Steps of a desk over epochs, in each of which there are n nodes, lead to another.
 abbrev pub Lead : List ℕ → ℕ → ℕ → ℕ → Epochs → Epochs → Type 0

@@ -3,6 +3,7 @@ use Rattle.std.specs.Prelude.{◌≡◌, ◌≢◌, ◌<◌, ℕ, ◌+◌, true,
 use Rattle.std.specs.Prelude.{Contains}
 use Rattle.desk_types.specs.declared.command.Entry.{Entry}
 use Rattle.desk_types.specs.declared.packet.Message.{Message}
+use Rattle.desk_types.specs.EpochPackets.{packet_under}
 use Rattle.desk_log.specs.SavedValue.{initial_saved}
 use Rattle.desk_node.specs.Heard.{silence}
 use Rattle.desk_epochs.specs.Epochs.{joined_logs}
@@ -32,12 +33,13 @@ pub data EpochAct : Type 0 where
   BeginsAndEnds : ℕ → EpochAct
   MeetsAndEnds : ℕ → EpochEvent → EpochAct
 
--- node i of n at first, where epochs end after so many entries
+-- node i of n at first, where epochs end after so many entries: its token is 0
 abbrev pub first_value : List ℕ → ℕ → ℕ → ℕ → EpochValue
 first_value domain n most i = record {
   epoch = 0;
-  past = record { rows = []; length = 0 };
+  past = record { rows = []; length = 0; replacements = [] };
   most = most;
+  token = 0;
   node = record { domain = domain; id = i; n = n; saved = initial_saved; heard = silence n };
 }
 
@@ -56,7 +58,7 @@ WasSentBefore sent i comes.Restart = Unit {0}
 
 -- a packet of an epoch's rules, with its receiver
 abbrev pub in_epoch : ℕ → ℕ × Message → ℕ × EpochPacket
-in_epoch epoch s = (s.0, record { epoch = epoch; purpose = purposes.Step; packet = s.1 })
+in_epoch epoch s = (s.0, packet_under epoch purposes.Step s.1)
 
 -- the packet that tells a past epoch's log after a place, where there are the log and the place
 abbrev pub past_packet : ℕ → ℕ → Option (List Entry) → Option Message
@@ -69,6 +71,10 @@ telling_packets to epoch None = []
 telling_packets to epoch (Some packet) =
     (to, record { epoch = epoch; purpose = purposes.Tell; packet = packet }) ∷ []
 
+-- a packet that asks for what a node lacks of an epoch, with its receiver
+abbrev pub asking_in : ℕ → ℕ × Message → ℕ × EpochPacket
+asking_in epoch s = (s.0, record { epoch = epoch; purpose = purposes.Ask; packet = s.1 })
+
 -- what a node with these past logs sends by a step
 abbrev pub epoch_packets_of : EpochValue → List (List Entry) → EpochStep → List (ℕ × EpochPacket)
 epoch_packets_of old logs steps.Nothing = []
@@ -78,9 +84,11 @@ epoch_packets_of old logs (steps.Refused client number refusal) = []
 epoch_packets_of old logs (steps.Deferred entry) = []
 epoch_packets_of old logs (steps.Ask to packet) =
     (to, record { epoch = old.epoch; purpose = purposes.Ask; packet = packet }) ∷ []
+epoch_packets_of old logs (steps.AskAll packets) = map (asking_in old.epoch) packets.items
 epoch_packets_of old logs (steps.Tell to epoch base) =
     telling_packets to epoch (past_packet old.node.id base (slice_get logs epoch))
 epoch_packets_of old logs (steps.Began log packets) = map (in_epoch (old.epoch + 1)) packets.items
+epoch_packets_of old logs steps.Replaced = []
 
 -- the past logs of a node after a step: a log that it was sent is put last
 abbrev pub logs_after : List (List Entry) → EpochStep → List (List Entry)
@@ -90,7 +98,9 @@ logs_after logs (steps.Known client number place) = logs
 logs_after logs (steps.Refused client number refusal) = logs
 logs_after logs (steps.Deferred entry) = logs
 logs_after logs (steps.Ask to packet) = logs
+logs_after logs (steps.AskAll packets) = logs
 logs_after logs (steps.Tell to epoch base) = logs
+logs_after logs steps.Replaced = logs
 logs_after logs (steps.Began log packets) = logs ++ log ∷ []
 
 -- what `EpochNode::step` promises
@@ -114,6 +124,7 @@ started_again e = record {
   epoch = e.epoch;
   past = e.past;
   most = e.most;
+  token = e.token;
   node = node_in_view e.node.domain e.node.id e.node.n 0;
 }
 

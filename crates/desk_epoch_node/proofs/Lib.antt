@@ -1,3 +1,6 @@
+pub mod Cuts
+pub mod Rests
+pub mod Standings
 pub mod Rows
 pub mod EpochEnds
 pub mod OneLogRequests

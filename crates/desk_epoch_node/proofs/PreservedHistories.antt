@@ -1,7 +1,7 @@
 -- What a node has committed of all epochs stays committed.
 use Rattle.std.proofs.Common.{◌≡◌, ℕ, zero, suc, ◌+◌, Bool, true, false, ◌&&◌, List, [], ◌∷◌, ◌++◌, length, take}
-use Rattle.std.proofs.Common.{refl, sym, ap, eqb, leb}
-use Rattle.std.proofs.Common.{subst, ◌∙◌, arith, append-nil}
+use Rattle.std.proofs.Common.{refl, sym, ap, leb}
+use Rattle.std.proofs.Common.{subst, ◌∙◌, append-nil}
 use Rattle.std.proofs.lemmas.Bool.{and_parts}
 use Rattle.desk_types.specs.declared.command.Entry.{Entry}
 use Rattle.desk_types.specs.declared.packet.Message.{Message}
@@ -9,29 +9,34 @@ use Rattle.desk_log.specs.Change.{keeps_committed}
 use Rattle.desk_log.specs.Entries.{IsLogPrefix}
 use Rattle.desk_log.specs.SavedValue.{committed_entries, in_view, initial_saved}
 use Rattle.desk_log.proofs.KeepsCommitted.{keeps_committed-Decides}
-use Rattle.desk_log.proofs.Prefixes.{prefix_refl, prefix_take, prefix_trans, take_take-prefix}
+use Rattle.desk_log.proofs.Prefixes.{prefix_refl, prefix_take, prefix_trans}
 use Rattle.desk_node.specs.declared.event.Event.{Event}
-use Rattle.desk_epoch_node.specs.declared.deed.Deed.TheVariants.{Ignore, Own, Answer, Refuse, Keep, Ask, Tell, Take}
+use Rattle.desk_epoch_node.specs.declared.deed.Deed.TheVariants.{Ignore, Own, Answer, Refuse, Keep, Ask, AskAll, Tell}
+use Rattle.desk_epoch_node.specs.declared.deed.Deed.TheVariants.{Take, Stop}
 use Rattle.desk_epoch_node.specs.declared.step.EpochStep.{EpochStep}
 use Rattle.desk_epoch_node.specs.declared.step.EpochStep.TheVariants as steps
-use Rattle.desk_epoch_node.specs.Does.{BeginsAfter, IsBegun, IsOwn, IsTaken, is_rest, next_node}
+use Rattle.desk_epoch_node.specs.Does.{BeginsAfter, IsAskAll, IsBegun, IsOwn, IsTaken, is_rest, next_node}
 use Rattle.desk_epoch_node.specs.Does.{next_view, whole_log}
-use Rattle.desk_epoch_node.specs.EpochValue.{EpochValue, committed_cut, has_next}
+use Rattle.desk_epochs.proofs.Histories.{cut_prefix}
+use Rattle.desk_epochs.proofs.RisingHistories.{cut_is_prefix}
+use Rattle.desk_epoch_node.specs.Ends.{cut_of, is_whole}
+use Rattle.desk_epoch_node.specs.EpochValue.{EpochValue, acts, committed_cut, has_next}
 use Rattle.desk_epoch_node.specs.Laws.{BeginningsKeep, KeepsHistory, StepsKeep}
 use Rattle.desk_epoch_node.specs.PastRows.{PastValue, StandFor}
+use Rattle.desk_epoch_node.specs.Replacements.{ends_epoch}
 
 prefix_after : (past xs ys : List Entry) → IsLogPrefix xs ys → IsLogPrefix (past ++ xs) (past ++ ys)
 prefix_after [] xs ys f = f
 prefix_after (e ∷ es) xs ys f = (refl, prefix_after es xs ys f)
 
 -- a first node has committed nothing
-none_committed : (k view : ℕ) → take k (committed_entries (in_view view initial_saved)) ≡ []
+none_committed : (k view : ℕ) → cut_of k (committed_entries (in_view view initial_saved)) ≡ []
 none_committed zero view = refl
 none_committed (suc k) view = refl
 
-begun_cut : (old new : EpochValue) → new.node ≡ next_node old.node → committed_cut new ≡ []
+begun_cut : (old new : EpochValue) → new.node ≡ next_node (acts new) old.node → committed_cut new ≡ []
 begun_cut old new is =
-    ap (λ n. take new.most (committed_entries n.saved)) is ∙ none_committed new.most (next_view old.node)
+    ap (λ n. cut_of new.most (committed_entries n.saved)) is ∙ none_committed new.most (next_view (acts new) old.node)
 
 -- The node begins after a log that begins with what it has committed of its epoch.
 begun_keeps : (past log : List Entry) (old new : EpochValue) (packets : List (ℕ × Message)) →
@@ -58,18 +63,20 @@ own_keeps : (past : List Entry) (event : Event) (old new : EpochValue) (step : E
 own_keeps past event old new (steps.Own step) s d = (
   past,
   subst (λ (p : PastValue). StandFor past p) (sym d.past_is) s,
-  subst (λ most. IsLogPrefix (past ++ committed_cut old) (past ++ take most (committed_entries new.node.saved)))
+  subst (λ most. IsLogPrefix (past ++ committed_cut old) (past ++ cut_of most (committed_entries new.node.saved)))
       (sym d.most_is)
-      (prefix_after past (committed_cut old) (take old.most (committed_entries new.node.saved))
-      (take_take-prefix old.most old.most (committed_entries old.node.saved) (committed_entries new.node.saved)
-      (omega arith) d.committed)),
+      (prefix_after past (committed_cut old) (cut_of old.most (committed_entries new.node.saved))
+      (cut_prefix ends_epoch old.most (committed_entries old.node.saved) (committed_entries new.node.saved)
+      d.committed)),
 )
 own_keeps past event old new steps.Nothing s d = absurd d
 own_keeps past event old new (steps.Known client number place) s d = absurd d
 own_keeps past event old new (steps.Refused client number refusal) s d = absurd d
 own_keeps past event old new (steps.Deferred entry) s d = absurd d
 own_keeps past event old new (steps.Ask to packet) s d = absurd d
+own_keeps past event old new (steps.AskAll packets) s d = absurd d
 own_keeps past event old new (steps.Tell to epoch base) s d = absurd d
+own_keeps past event old new steps.Replaced s d = absurd d
 own_keeps past event old new (steps.Began log packets) s d = absurd d
 
 reported_keeps : (past whole : List Entry) (old new : EpochValue) (step : EpochStep) →
@@ -80,7 +87,9 @@ reported_keeps past whole old new (steps.Known client number place) f d = absurd
 reported_keeps past whole old new (steps.Refused client number refusal) f d = absurd d
 reported_keeps past whole old new (steps.Deferred entry) f d = absurd d
 reported_keeps past whole old new (steps.Ask to packet) f d = absurd d
+reported_keeps past whole old new (steps.AskAll packets) f d = absurd d
 reported_keeps past whole old new (steps.Tell to epoch base) f d = absurd d
+reported_keeps past whole old new steps.Replaced f d = absurd d
 reported_keeps past whole old new (steps.Own step) f d = absurd d
 
 -- what the node has committed begins the log that it takes
@@ -90,12 +99,13 @@ rest_keeps old base entries h =
     let whole : List Entry = whole_log old base entries in
     let p =
     and_parts
-    (has_next old && leb base (length (committed_cut old)) && eqb (base + length entries) old.most)
+    (has_next old && leb base (length (committed_cut old)) && is_whole old.most whole)
     (keeps_committed old.node.saved whole) h in
     let preserved = (keeps_committed-Decides old.node.saved whole).0 p.1 in
-    subst (λ own. IsLogPrefix (take old.most own) whole) (sym preserved.1)
-    (prefix_trans (take old.most (take old.node.saved.commit whole)) (take old.node.saved.commit whole) whole
-    (prefix_take old.most (take old.node.saved.commit whole)) (prefix_take old.node.saved.commit whole))
+    subst (λ own. IsLogPrefix (cut_of old.most own) whole) (sym preserved.1)
+    (prefix_trans (cut_of old.most (take old.node.saved.commit whole)) (take old.node.saved.commit whole) whole
+    (cut_is_prefix ends_epoch old.most (take old.node.saved.commit whole))
+    (prefix_take old.node.saved.commit whole))
 
 taken_keeps : (past : List Entry) (base : ℕ) (entries : List Entry) (old new : EpochValue) (step : EpochStep)
     (rest : Bool) → is_rest old base entries ≡ rest → StandFor past old.past →
@@ -104,6 +114,19 @@ taken_keeps past base entries old new step true is s d =
     reported_keeps past (whole_log old base entries) old new step (rest_keeps old base entries is) d
 taken_keeps past base entries old new step false is s d = same_keeps past old new s d.1
 
+asking_keeps : (past : List Entry) (old new : EpochValue) (step : EpochStep) → StandFor past old.past →
+    IsAskAll old new step → KeepsHistory past old new
+asking_keeps past old new (steps.AskAll packets) s d = same_keeps past old new s d.1
+asking_keeps past old new steps.Nothing s d = absurd d
+asking_keeps past old new (steps.Own step) s d = absurd d
+asking_keeps past old new (steps.Known client number place) s d = absurd d
+asking_keeps past old new (steps.Refused client number refusal) s d = absurd d
+asking_keeps past old new (steps.Deferred entry) s d = absurd d
+asking_keeps past old new (steps.Ask to packet) s d = absurd d
+asking_keeps past old new (steps.Tell to epoch base) s d = absurd d
+asking_keeps past old new (steps.Began log packets) s d = absurd d
+asking_keeps past old new steps.Replaced s d = absurd d
+
 pub steps_keep : StepsKeep
 steps_keep past Ignore old new step s d = same_keeps past old new s d.1
 steps_keep past (Own event) old new step s d = own_keeps past event old new step s d
@@ -111,6 +134,8 @@ steps_keep past (Answer client number place) old new step s d = same_keeps past 
 steps_keep past (Refuse client number refusal) old new step s d = same_keeps past old new s d.1
 steps_keep past (Keep entry) old new step s d = same_keeps past old new s d.1
 steps_keep past (Ask to) old new step s d = same_keeps past old new s d.1
+steps_keep past AskAll old new step s d = asking_keeps past old new step s d
 steps_keep past (Tell to epoch base) old new step s d = same_keeps past old new s d.1
+steps_keep past Stop old new step s d = same_keeps past old new s d.1
 steps_keep past (Take base entries) old new step s d =
     taken_keeps past base entries old new step (is_rest old base entries) refl s d

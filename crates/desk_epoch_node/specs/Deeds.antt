@@ -12,12 +12,16 @@ use Rattle.desk_log.specs.Change.{leads}
 use Rattle.desk_log.specs.Entries.{latest}
 use Rattle.desk_node.specs.declared.event.Event.TheVariants as events
 use Rattle.desk_epoch_node.specs.declared.deed.Deed.{Deed}
-use Rattle.desk_epoch_node.specs.declared.deed.Deed.TheVariants.{Ignore, Own, Answer, Refuse, Keep, Ask, Tell, Take}
+use Rattle.desk_epoch_node.specs.declared.deed.Deed.TheVariants.{Ignore, Own, Answer, Refuse, Keep, Ask, AskAll, Tell}
+use Rattle.desk_epoch_node.specs.declared.deed.Deed.TheVariants.{Take, Stop}
 use Rattle.desk_epoch_node.specs.declared.event.EpochEvent.{EpochEvent}
 use Rattle.desk_epoch_node.specs.declared.event.EpochEvent.TheVariants as comes
 use Rattle.desk_types.specs.declared.epoch_packet.Purpose.{Purpose}
 use Rattle.desk_types.specs.declared.epoch_packet.Purpose.TheVariants as purposes
-use Rattle.desk_epoch_node.specs.EpochValue.{EpochValue, has_next, reaches_end}
+use Rattle.desk_epoch_node.specs.declared.standing.Standing.{Standing}
+use Rattle.desk_epoch_node.specs.declared.standing.Standing.TheVariants.{Acts, Awaits, Replaced}
+use Rattle.desk_epoch_node.specs.Ends.{reaches_end}
+use Rattle.desk_epoch_node.specs.EpochValue.{EpochValue, has_next, standing_of}
 use Rattle.desk_epoch_node.specs.PastRows.{one_log_admission}
 
 -- The node of the epoch meets a request, unless its log has reached the epoch's end. Then the request is held for the
@@ -75,10 +79,45 @@ packet_deed e purposes.Ask epoch packet =
     else asks_other e (sender packet)
 packet_deed e purposes.Tell epoch packet = if epoch == e.epoch then taking packet else Ignore
 
+-- what is asked of a node that acts, whose past logs are these entries
+abbrev pub acting_deed : List Entry → EpochValue → EpochEvent → Deed
+acting_deed past e (comes.Request entry) = request_deed past e entry
+acting_deed past e (comes.Packet p) = packet_deed e p.purpose p.epoch p.packet
+acting_deed past e comes.Resend = Own events.Resend
+acting_deed past e comes.Suspect = Own events.Suspect
+acting_deed past e comes.Restart = Own events.Restart
+
+-- A later epoch makes a node ask. One that does not act takes its epoch's log, and says nothing else.
+abbrev pub asks_later : EpochValue → ℕ → Message → Deed
+asks_later e epoch packet = if nat_lt e.epoch epoch then asks_other e (sender packet) else Ignore
+
+abbrev pub awaiting_packet : EpochValue → Purpose → ℕ → Message → Deed
+awaiting_packet e purposes.Step epoch packet = asks_later e epoch packet
+awaiting_packet e purposes.Ask epoch packet = asks_later e epoch packet
+awaiting_packet e purposes.Tell epoch packet = if epoch == e.epoch then taking packet else Ignore
+
+-- What is asked of a node whose token is not yet named: it asks all for what it lacks, again and again.
+abbrev pub awaiting_deed : EpochValue → EpochEvent → Deed
+awaiting_deed e (comes.Request entry) = Refuse entry.client entry.number refusals.NodeStopped
+awaiting_deed e (comes.Packet p) = awaiting_packet e p.purpose p.epoch p.packet
+awaiting_deed e comes.Resend = AskAll
+awaiting_deed e comes.Suspect = Ignore
+awaiting_deed e comes.Restart = Ignore
+
+-- What is asked of a node that was replaced: it refuses requests, and stops, whatever else comes.
+abbrev pub replaced_deed : EpochEvent → Deed
+replaced_deed (comes.Request entry) = Refuse entry.client entry.number refusals.NodeStopped
+replaced_deed (comes.Packet p) = Stop
+replaced_deed comes.Resend = Stop
+replaced_deed comes.Suspect = Stop
+replaced_deed comes.Restart = Stop
+
+-- what is asked of a node by what it does under its number
+abbrev pub deed_under : Standing → List Entry → EpochValue → EpochEvent → Deed
+deed_under Acts past e event = acting_deed past e event
+deed_under Awaits past e event = awaiting_deed e event
+deed_under Replaced past e event = replaced_deed event
+
 -- what is asked of a node, whose past logs are these entries
 abbrev pub deed : List Entry → EpochValue → EpochEvent → Deed
-deed past e (comes.Request entry) = request_deed past e entry
-deed past e (comes.Packet p) = packet_deed e p.purpose p.epoch p.packet
-deed past e comes.Resend = Own events.Resend
-deed past e comes.Suspect = Own events.Suspect
-deed past e comes.Restart = Own events.Restart
+deed past e event = deed_under (standing_of e) past e event

@@ -1,5 +1,6 @@
 -- Laws of nodes over epochs.
-use Rattle.std.specs.Prelude.{◌≡◌, ◌≤◌, ℕ, zero, suc, true, false, List, [], ◌++◌, length, take, drop}
+use Rattle.std.specs.Prelude.{◌≡◌, ◌<◌, ◌≤◌, ℕ, zero, suc, true, false, nat_le, List, [], ◌∷◌, ◌++◌, length, take}
+use Rattle.std.specs.Prelude.{drop}
 use Rattle.desk_types.specs.declared.command.Entry.{Entry}
 use Rattle.desk_types.specs.declared.limits.TheConstants.{LAST_VIEW, LOG_ENTRIES}
 use Rattle.desk_types.specs.declared.packet.Message.{Message}
@@ -13,20 +14,47 @@ use Rattle.desk_node.specs.declared.event.Event.TheVariants as events
 use Rattle.desk_node.specs.State.{State}
 use Rattle.desk_node.specs.Rules.{node_step}
 use Rattle.desk_world.specs.World.{first_state}
-use Rattle.desk_epochs.specs.Histories.{epoch_log, has_ended}
 use Rattle.desk_epochs.specs.OneLog.{placed_after}
 use Rattle.desk_epoch_node.specs.declared.deed.Deed.{Deed}
-use Rattle.desk_epoch_node.specs.declared.deed.Deed.TheVariants.{Own, Answer, Refuse}
+use Rattle.desk_epoch_node.specs.declared.deed.Deed.TheVariants.{Ignore, Own, Answer, Refuse, Keep, Ask, AskAll, Tell}
+use Rattle.desk_epoch_node.specs.declared.deed.Deed.TheVariants.{Take, Stop}
+use Rattle.desk_epoch_node.specs.declared.event.EpochEvent.{EpochEvent}
 use Rattle.desk_epoch_node.specs.declared.step.EpochStep.{EpochStep}
-use Rattle.desk_epoch_node.specs.Deeds.{request_deed}
+use Rattle.desk_epoch_node.specs.Deeds.{deed, request_deed}
 use Rattle.desk_epoch_node.specs.Does.{BeginsAfter, DoesDeed, is_rest, whole_log}
-use Rattle.desk_epoch_node.specs.EpochValue.{EpochValue, committed_cut, has_next, reaches_end}
+use Rattle.desk_epoch_node.specs.Ends.{cut_of, is_whole, reaches_end}
+use Rattle.desk_epoch_node.specs.EpochValue.{EpochValue, acts, committed_cut, has_next}
 use Rattle.desk_epoch_node.specs.PastRows.{StandFor, one_log_admission}
+use Rattle.desk_epoch_node.specs.Replacements.{ends_epoch, replacements}
 
--- An epoch that ends after so many entries, and by no entry of itself, ends where they are reached.
+-- Where none of the first entries, so many, names a replacement, an epoch ends after them.
 abbrev pub EndsByCount : Type 0
-EndsByCount = (most : ℕ) (log : List Entry) →
-    (has_ended (λ e. false) most log ≡ reaches_end most log) × (epoch_log (λ e. false) most log ≡ take most log)
+EndsByCount = (most : ℕ) (log : List Entry) → replacements (take most log) ≡ [] →
+    (reaches_end most log ≡ nat_le most (length log)) × (cut_of most log ≡ take most log)
+
+-- The first entry that names one ends the epoch, where that has not ended before.
+abbrev pub EndsByReplacement : Type 0
+EndsByReplacement = (most : ℕ) (before rest : List Entry) (e : Entry) → replacements before ≡ [] →
+    length before < most → ends_epoch e ≡ true →
+    (reaches_end most (before ++ e ∷ rest) ≡ true) × (cut_of most (before ++ e ∷ rest) ≡ before ++ e ∷ [])
+
+-- It asks, takes what it is told, refuses requests, or stops: no node of its epoch hears of it.
+abbrev pub IsQuiet : Deed → Type 0
+IsQuiet Ignore = Unit {0}
+IsQuiet (Own event) = ⊥
+IsQuiet (Answer client number place) = ⊥
+IsQuiet (Refuse client number refusal) = Unit {0}
+IsQuiet (Keep entry) = ⊥
+IsQuiet (Ask to) = Unit {0}
+IsQuiet AskAll = Unit {0}
+IsQuiet (Tell to epoch base) = ⊥
+IsQuiet (Take base entries) = Unit {0}
+IsQuiet Stop = Unit {0}
+
+-- So does who does not act in the epoch, whatever comes.
+abbrev pub OthersAreQuiet : Type 0
+OthersAreQuiet = (past : List Entry) (e : EpochValue) (event : EpochEvent) → acts e ≡ false →
+    IsQuiet (deed past e event)
 
 -- a first node that suspected its primary so many times
 abbrev pub suspected : List ℕ → ℕ → ℕ → ℕ → State
@@ -74,6 +102,6 @@ BeginningsKeep = (past : List Entry) (old new : EpochValue) (packets : List (ℕ
 -- Where what a node has committed is the beginning of its epoch's log, that log's entries after it make the log whole.
 abbrev pub TellingServes : Type 0
 TellingServes = (e : EpochValue) (log : List Entry) → IsSaved e.node.saved → has_next e ≡ true →
-    length log ≡ e.most → IsLogPrefix (committed_entries e.node.saved) log →
+    is_whole e.most log ≡ true → IsLogPrefix (committed_entries e.node.saved) log →
     (is_rest e (length (committed_cut e)) (drop (length (committed_cut e)) log) ≡ true)
     × (whole_log e (length (committed_cut e)) (drop (length (committed_cut e)) log) ≡ log)

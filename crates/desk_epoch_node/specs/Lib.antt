@@ -1,3 +1,5 @@
+pub mod Replacements
+pub mod Ends
 pub mod PastRows
 pub mod EpochValue
 pub mod Deeds

@@ -11,6 +11,8 @@ use Rattle.desk_log.specs.declared.admission.Admission.TheVariants.{Retry, Stale
 use Rattle.desk_log.specs.Entries.{latest, number_at}
 use Rattle.desk_epochs.specs.OneLog.{new_where, admission_by}
 use Rattle.desk_epoch_node.specs.declared.past_row.PastRow.{PastRow}
+use Rattle.desk_epoch_node.specs.declared.replacement.Replacement.{Replacement}
+use Rattle.desk_epoch_node.specs.Replacements.{replacements}
 
 -- whether one more entry can be put last
 abbrev pub has_room : List Entry → Bool
@@ -20,10 +22,11 @@ has_room log = not (length log == LOG_ENTRIES)
 abbrev pub past_row_at : List Entry → ℕ → PastRow
 past_row_at past place = record { number = number_at past place; place = place }
 
--- what past logs are stored as: a row for each client, and how many entries they are
+-- what past logs are kept as: a row for each client, how many entries they are, and the replacements that they name
 pub record PastValue : Type 0 where
   pub rows : List (ℕ × PastRow)
   pub length : ℕ
+  pub replacements : List Replacement
 
 -- the row of a client
 abbrev pub latest_row : List (ℕ × PastRow) → ℕ → Option PastRow
@@ -33,10 +36,11 @@ latest_row rows client = lookup (is_at (nat_cmp client)) rows
 abbrev pub AreLatestRows : List Entry → List (ℕ × PastRow) → Type 0
 AreLatestRows past rows = (client : ℕ) → latest_row rows client ≡ option_map (past_row_at past) (latest client past)
 
--- They are as long as these entries, and have the latest entry of each client.
+-- They are as long as these entries, have the latest entry of each client, and name the same replacements.
 pub record StandFor (past : List Entry) (p : PastValue) : Type 0 where
   pub length_is : p.length ≡ length past
   pub rows_are : AreLatestRows past p.rows
+  pub replacements_are : p.replacements ≡ replacements past
 
 -- what becomes of a request beside the client's latest number, which stands at a place
 abbrev pub decided : ℕ → ℕ → ℕ → Bool → Admission

@@ -1,19 +1,43 @@
 //! How a node over epochs does what is asked of it.
 
-ghost use Rattle.std.specs.Prelude.{◌≡◌, List, length, true, IfOk, OnErr};
+ghost use Rattle.std.specs.Prelude.{◌≡◌, ◌≤◌, ◌++◌, List, length, take, true, IfOk, OnErr};
 ghost use Rattle.desk_types.specs.declared.command.Entry.{Entry as AnEntry};
+ghost use Rattle.desk_types.specs.declared.limits.TheConstants.{LOG_ENTRIES};
 ghost use Rattle.desk_types.specs.declared.packet.Message.TheVariants.{GetState};
 ghost use Rattle.desk_epoch_node.specs.Deeds.{deed};
-ghost use Rattle.desk_epoch_node.specs.Does.{DoesDeed, IsBegun, IsOwn, IsTaken, is_rest, whole_log};
+ghost use Rattle.desk_epoch_node.specs.Does.{DoesDeed, IsAskAll, IsBegun, IsOwn, IsTaken, is_rest, whole_log};
+ghost use Rattle.desk_epoch_node.specs.Ends.{is_whole};
 ghost use Rattle.desk_epoch_node.specs.EpochValue.{committed_cut};
 ghost use Rattle.desk_epoch_node.specs.PastRows.{StandFor};
 
+use crate::cut::{cut_at_commit, cut_with, first_cut};
 use crate::deed::Deed;
 use crate::epoch_node::EpochNode;
 use crate::event::EpochEvent;
 use crate::step::{Ended, EpochStep};
+use desk_log::{Log, push_to_others};
 use desk_node::Event;
 use desk_types::{Entry, Items, Message, Packet, WantOfMemory};
+
+/// Whether the first entries of a log, and these after them, are the whole log of an epoch.
+#[tactic(auto, using(crate::proofs::Cuts::whole_of_cut, crate::proofs::Cuts::not_whole))]
+fn is_whole(log: &Log, base: u64, entries: &[Entry], most: u64) -> bool
+    requires base { base ≤ length log.now }
+    requires least { 1 ≤ most }
+    requires most { most ≤ LOG_ENTRIES }
+    ensures { result ≡ is_whole most (take base log.now ++ entries.now) }
+{
+    let first = cut_with(first_cut(), &log.entries()[..base as usize], most);
+    let cut = cut_with(first, entries, most);
+    let count = entries.len() as u64;
+    if !cut.ended {
+        return false;
+    }
+    if count > most {
+        return false;
+    }
+    cut.count == base + count
+}
 
 impl EpochNode {
     /// Its node of the epoch deals with an event.
@@ -21,7 +45,9 @@ impl EpochNode {
         ensures step { IfOk result (λ step. IsOwn self.old event self.new step) }
         ensures err { OnErr result (self.new ≡ self.old) }
     {
+        let known = self.node.saved().commit();
         let step = self.node.step(event)?;
+        self.cut = cut_at_commit(self.cut, known, self.node.saved(), self.most);
         Ok(EpochStep::Own(step))
     }
 
@@ -36,18 +62,29 @@ impl EpochNode {
         })
     }
 
+    /// Asks all others for what the node lacks of its epoch.
+    fn ask_all(&self) -> Result<EpochStep, WantOfMemory>
+        ensures { IfOk result (λ step. IsAskAll self.now self.now step) }
+    {
+        let member = self.node.member();
+        let mut packets = Vec::new(member.alloc);
+        push_to_others(member, &mut packets, self.ask())?;
+        Ok(EpochStep::AskAll { packets })
+    }
+
     /// Whether entries are the rest of the epoch's log, after a place within what the node has committed.
     fn is_rest(&self, base: u64, entries: &[Entry]) -> bool
         ensures { result ≡ is_rest self.now base entries.now }
     {
-        let count = entries.len() as u64;
+        let log = self.node.saved().log();
         self.has_next()
             && base <= self.committed()
-            && self.most - base == count
+            && is_whole(log, base, entries, self.most)
             && self.node.saved().keeps_committed(base, entries)
     }
 
     /// Takes the rest of its epoch's log, and begins the next.
+    #[tactic(auto, using(crate::proofs::Cuts::whole_least, crate::proofs::Cuts::whole_most))]
     fn begin_with_rest(
         &mut self,
         base: u64,
@@ -111,8 +148,10 @@ impl EpochNode {
                 to,
                 packet: self.ask(),
             }),
+            Deed::AskAll => self.ask_all(),
             Deed::Tell { to, epoch, base } => Ok(EpochStep::Tell { to, epoch, base }),
             Deed::Take { base, entries } => self.take(base, entries),
+            Deed::Stop => Ok(EpochStep::Replaced),
         }
     }
 

@@ -7,30 +7,33 @@ ghost use Rattle.desk_types.specs.declared.limits.TheConstants.{LAST_PLACE};
 ghost use Rattle.desk_log.specs.SavedValue.{committed_entries};
 ghost use Rattle.desk_view_change.specs.Rules.{view_requests};
 ghost use Rattle.desk_epoch_node.specs.Does.{BeginsAfter, node_in_view, is_due, next_node, next_packets};
-ghost use Rattle.desk_epoch_node.specs.EpochValue.{committed_cut, has_next};
+ghost use Rattle.desk_epoch_node.specs.Ends.{reaches_end};
+ghost use Rattle.desk_epoch_node.specs.EpochValue.{acts, committed_cut, has_next};
 ghost use Rattle.desk_epoch_node.specs.PastRows.{StandFor};
 
+use crate::cut::first_cut;
 use crate::epoch_node::EpochNode;
 use crate::past_logs::PastLogs;
+use crate::standing::{Standing, standing_after};
 use crate::step::Ended;
 use desk_log::{GroupNode, Log, Saved, push_to_others};
 use desk_node::Node;
 use desk_types::{Domain, Message, Packet, WantOfMemory};
 use std::mem;
 
-/// Past logs with so many committed entries after them.
+/// Past logs with the cut of what is committed after them, which has so many entries.
 #[tactic(auto, using(crate::proofs::Beginnings::stand_with_cut, crate::proofs::Beginnings::cut_length))]
-fn past_with_first(past: &PastLogs, saved: &Saved, most: u64) -> Result<PastLogs, WantOfMemory>
-    requires ended { most ≤ saved.now.commit }
-    requires places { past.now.length + most ≤ LAST_PLACE }
+fn past_with_cut(past: &PastLogs, saved: &Saved, count: u64) -> Result<PastLogs, WantOfMemory>
+    requires places { past.now.length + count ≤ LAST_PLACE }
+    requires within { count ≤ saved.now.commit }
     ensures stand { IfOk result (λ longer. (before : List AnEntry) → StandFor before past.now →
-        StandFor (before ++ take most (committed_entries saved.now)) longer) }
-    ensures length { IfOk result (λ longer. longer.length ≡ past.now.length + most) }
+        StandFor (before ++ take count (committed_entries saved.now)) longer) }
+    ensures length { IfOk result (λ longer. longer.length ≡ past.now.length + count) }
 {
     // What is committed stands in the log.
     prove!(saved.commit() <= saved.log().len());
     let entries = saved.log().entries();
-    past.followed_by(&entries[..most as usize])
+    past.followed_by(&entries[..count as usize])
 }
 
 /// The packets by which a first node asks the others for a view, where it is not the first one.
@@ -62,37 +65,47 @@ impl EpochNode {
     /// Begins the next epoch, after these past logs, and gives the node of the epoch before. Where memory is refused
     /// nothing changes.
     pub(crate) fn begin(&mut self, past: PastLogs) -> Result<Ended, WantOfMemory>
-        requires length { past.length ≡ self.old.past.length + self.old.most }
+        requires longer { self.old.past.length < past.length }
+        requires length { past.length ≤ self.old.past.length + self.old.most }
         requires next { has_next self.old ≡ true }
         ensures node { IfOk result (λ ended. ended.node ≡ self.old.node) }
-        ensures packets { IfOk result (λ ended. ended.packets.items ≡ next_packets self.old.node) }
+        ensures packets { IfOk result (λ ended. ended.packets.items ≡ next_packets (acts self.new) self.old.node) }
         ensures new { OnOk result (self.new ≡ record {
           epoch = self.old.epoch + 1;
           past = past;
           most = self.old.most;
-          node = next_node self.old.node;
+          token = self.old.token;
+          node = next_node (acts self.new) self.old.node;
         }) }
         ensures err { OnErr result (self.new ≡ self.old) }
     {
         let member = self.node.member();
-        let view = member.primary(self.node.saved().view());
+        let standing = standing_after(past.replacements(), member.id, self.token);
+        let view = match standing {
+            Standing::Acts => member.primary(self.node.saved().view()),
+            Standing::Awaits | Standing::Replaced => 0,
+        };
         let packets = view_requests(member, view)?;
         let first = node_in_view(member, self.node.domain(), view)?;
         self.past = past;
         self.epoch += 1;
+        self.cut = first_cut();
+        self.standing = standing;
         let node = mem::replace(&mut self.node, first);
         Ok(Ended { node, packets })
     }
 
     /// The past logs of the next epoch, where the node has committed the end of its own.
+    #[tactic(auto, using(crate::proofs::Cuts::count_first))]
     fn past_with_own(&self) -> Result<PastLogs, WantOfMemory>
-        requires ended { self.now.most ≤ self.now.node.saved.commit }
+        requires ended { reaches_end self.now.most (committed_entries self.now.node.saved) ≡ true }
         requires next { has_next self.now ≡ true }
         ensures stand { IfOk result (λ longer. (past : List AnEntry) → StandFor past self.now.past →
             StandFor (past ++ committed_cut self.now) longer) }
-        ensures length { IfOk result (λ longer. longer.length ≡ self.now.past.length + self.now.most) }
+        ensures longer { IfOk result (λ longer. self.now.past.length < longer.length) }
+        ensures length { IfOk result (λ longer. longer.length ≤ self.now.past.length + self.now.most) }
     {
-        past_with_first(&self.past, self.node.saved(), self.most)
+        past_with_cut(&self.past, self.node.saved(), self.cut.count)
     }
 
     /// Begins the next epoch, where the node has committed the end of its own and there are places for one more, and

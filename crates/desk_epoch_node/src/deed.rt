@@ -28,6 +28,8 @@ pub enum Deed {
     Ask {
         to: u8,
     },
+    /// It asks all others for what it lacks of its epoch.
+    AskAll,
     /// It tells a node the log of a past epoch, after a place.
     Tell {
         to: u8,
@@ -39,4 +41,6 @@ pub enum Deed {
         base: u64,
         entries: Items<Entry>,
     },
+    /// Nothing any more: it was replaced.
+    Stop,
 }

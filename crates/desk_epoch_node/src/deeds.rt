@@ -3,13 +3,17 @@
 ghost use Rattle.std.specs.Prelude.{◌≡◌, List};
 ghost use Rattle.desk_types.specs.declared.command.Entry.{Entry as AnEntry};
 ghost use Rattle.desk_epoch_node.specs.declared.deed.Deed.TheVariants.{Answer, Refuse};
-ghost use Rattle.desk_epoch_node.specs.Deeds.{asks_other, deed, deed_by, deed_here, is_other, looks_back};
-ghost use Rattle.desk_epoch_node.specs.Deeds.{packet_deed, request_deed, taking, telling};
+ghost use Rattle.desk_epoch_node.specs.Deeds.{acting_deed, asks_later, asks_other, awaiting_deed, awaiting_packet};
+ghost use Rattle.desk_epoch_node.specs.Deeds.{deed, deed_by, deed_here, is_other, looks_back};
+ghost use Rattle.desk_epoch_node.specs.Deeds.{packet_deed, replaced_deed, request_deed, taking, telling};
+ghost use Rattle.desk_epoch_node.specs.Ends.{reaches_end};
 ghost use Rattle.desk_epoch_node.specs.PastRows.{StandFor};
 
+use crate::cut::cut_with;
 use crate::deed::Deed;
 use crate::epoch_node::EpochNode;
 use crate::event::EpochEvent;
+use crate::standing::Standing;
 use desk_log::Admission;
 use desk_node::Event;
 use desk_types::{Entry, EpochPacket, Message, Packet, Purpose, Refusal};
@@ -53,12 +57,37 @@ fn taking(message: Message) -> Deed
     }
 }
 
+/// What is asked of a node that was replaced.
+fn replaced_deed(event: EpochEvent) -> Deed
+    ensures { result ≡ replaced_deed event }
+{
+    match event {
+        EpochEvent::Request(request) => refuse(request, Refusal::NodeStopped),
+        other => {
+            drop(other);
+            Deed::Stop
+        }
+    }
+}
+
 impl EpochNode {
+    /// Whether the epoch's log reaches the epoch's end, committed or not. The time is linear in the entries that are
+    /// not committed.
+    fn is_log_full(&self) -> bool
+        ensures { result ≡ reaches_end self.now.most self.now.node.saved.log }
+    {
+        let saved = self.node.saved();
+        // What is committed stands in the log.
+        prove!(saved.commit() <= saved.log().len());
+        let rest = &saved.log().entries()[saved.commit() as usize..];
+        cut_with(self.cut, rest, self.most).ended
+    }
+
     /// A request that past logs do not answer.
     fn deed_here(&self, entry: Entry) -> Deed
         ensures { result ≡ deed_here self.now entry }
     {
-        if self.node.saved().log().len() < self.most {
+        if !self.is_log_full() {
             return Deed::Own(Event::Request(entry));
         }
         if self.has_next() {
@@ -165,9 +194,9 @@ impl EpochNode {
         }
     }
 
-    /// What is asked of the node by what comes to it.
-    pub(crate) fn deed(&self, event: EpochEvent) -> Deed
-        ensures { (past : List AnEntry) → StandFor past self.now.past → result ≡ deed past self.now event }
+    /// What is asked of a node that acts.
+    fn acting_deed(&self, event: EpochEvent) -> Deed
+        ensures { (past : List AnEntry) → StandFor past self.now.past → result ≡ acting_deed past self.now event }
     {
         match event {
             EpochEvent::Request(entry) => self.request_deed(entry),
@@ -181,6 +210,59 @@ impl EpochNode {
             EpochEvent::Resend => Deed::Own(Event::Resend),
             EpochEvent::Suspect => Deed::Own(Event::Suspect),
             EpochEvent::Restart => Deed::Own(Event::Restart),
+        }
+    }
+
+    /// What a packet of a later epoch asks of a node that does not act.
+    fn asks_later(&self, epoch: u64, packet: &Packet) -> Deed
+        ensures { result ≡ asks_later self.now epoch packet.now }
+    {
+        if self.epoch < epoch {
+            return self.asks_other(packet.message().from());
+        }
+        Deed::Ignore
+    }
+
+    fn awaiting_packet(&self, purpose: Purpose, epoch: u64, packet: Packet) -> Deed
+        ensures { result ≡ awaiting_packet self.now purpose epoch packet }
+    {
+        match purpose {
+            Purpose::Step | Purpose::Ask => self.asks_later(epoch, &packet),
+            Purpose::Tell => {
+                if epoch == self.epoch {
+                    return taking(packet.into_message());
+                }
+                Deed::Ignore
+            }
+        }
+    }
+
+    /// What is asked of a node whose token is not yet named.
+    fn awaiting_deed(&self, event: EpochEvent) -> Deed
+        ensures { result ≡ awaiting_deed self.now event }
+    {
+        match event {
+            EpochEvent::Request(entry) => refuse(entry, Refusal::NodeStopped),
+            EpochEvent::Packet(
+                EpochPacket {
+                    epoch,
+                    purpose,
+                    packet,
+                },
+            ) => self.awaiting_packet(purpose, epoch, packet),
+            EpochEvent::Resend => Deed::AskAll,
+            EpochEvent::Suspect | EpochEvent::Restart => Deed::Ignore,
+        }
+    }
+
+    /// What is asked of the node by what comes to it.
+    pub(crate) fn deed(&self, event: EpochEvent) -> Deed
+        ensures { (past : List AnEntry) → StandFor past self.now.past → result ≡ deed past self.now event }
+    {
+        match self.standing {
+            Standing::Acts => self.acting_deed(event),
+            Standing::Awaits => self.awaiting_deed(event),
+            Standing::Replaced => replaced_deed(event),
         }
     }
 }

@@ -3,20 +3,27 @@
 ghost use Rattle.std.specs.Prelude.{◌≡◌, ◌<◌, length};
 ghost use Rattle.desk_types.specs.declared.limits.TheConstants.{LAST_PLACE};
 ghost use Rattle.desk_log.specs.SavedValue.{committed_entries};
-ghost use Rattle.desk_epoch_node.specs.EpochValue.{IsInEpoch, committed_cut, has_next, reaches_end};
+ghost use Rattle.desk_epoch_node.specs.Ends.{reaches_end};
+ghost use Rattle.desk_epoch_node.specs.EpochValue.{IsInEpoch, committed_cut, has_next, standing_of};
 
+use crate::cut::{Cut, cut_at_commit, first_cut};
 use crate::past_logs::PastLogs;
+use crate::standing::{Standing, standing_after};
 use desk_node::Node;
 use desk_types::limits::LAST_PLACE;
 use std::marker::Model;
 
 /// A node over epochs: the epoch that it is in, what it keeps of the logs of past epochs, how many entries end an
-/// epoch, and its node of the epoch.
+/// epoch, its own token, and its node of the epoch. Kept beside these: how much of the epoch it has committed, and what
+/// it does under its number there.
 pub struct EpochNode {
     pub(crate) epoch: u64,
     pub(crate) past: PastLogs,
     pub(crate) most: u64,
+    pub(crate) token: u64,
     pub(crate) node: Node,
+    pub(crate) cut: Cut,
+    pub(crate) standing: Standing,
 }
 
 // Written out, so that callers need not prove each part's drop.
@@ -26,33 +33,44 @@ impl Drop for EpochNode {
             epoch: _,
             past: _,
             most: _,
+            token: _,
             node: _,
+            cut: _,
+            standing: _,
         } = self;
     }
 }
 
 impl Model for EpochNode {
-    ghost use Rattle.desk_epoch_node.specs.EpochValue.{EpochValue, IsInEpoch};
+    ghost use Rattle.desk_epoch_node.specs.EpochValue.{EpochValue, IsKept};
 
     ghost Value = { EpochValue };
 
-    ghost view = { λ e. record { epoch = e.epoch; past = e.past; most = e.most; node = e.node } };
+    ghost view = { λ e. record { epoch = e.epoch; past = e.past; most = e.most; token = e.token; node = e.node } };
 
-    ghost invariant = { λ e. IsInEpoch (record { epoch = e.epoch; past = e.past; most = e.most; node = e.node }) };
+    ghost invariant = { λ e.
+        IsKept (record { epoch = e.epoch; past = e.past; most = e.most; token = e.token; node = e.node }) e.cut
+        e.standing };
 }
 
 impl EpochNode {
     /// A node in an epoch, counted from 0, with what it keeps of past logs, where an epoch ends after so many entries,
-    /// 1 to 65,536.
-    pub fn new(epoch: u64, past: PastLogs, most: u64, node: Node) -> EpochNode
-        requires { IsInEpoch (record { epoch = epoch; past = past; most = most; node = node }) }
-        ensures { result ≡ record { epoch = epoch; past = past; most = most; node = node } }
+    /// 1 to 65,536, and with its token, which is 0 for those that begin a desk. The time is linear in what it has
+    /// committed of the epoch.
+    pub fn new(epoch: u64, past: PastLogs, most: u64, token: u64, node: Node) -> EpochNode
+        requires { IsInEpoch (record { epoch = epoch; past = past; most = most; token = token; node = node }) }
+        ensures { result ≡ record { epoch = epoch; past = past; most = most; token = token; node = node } }
     {
+        let cut = cut_at_commit(first_cut(), 0, node.saved(), most);
+        let standing = standing_after(past.replacements(), node.id(), token);
         EpochNode {
             epoch,
             past,
             most,
+            token,
             node,
+            cut,
+            standing,
         }
     }
 
@@ -82,14 +100,28 @@ impl EpochNode {
     pub fn committed(&self) -> u64
         ensures { result ≡ length (committed_cut self.now) }
     {
-        self.node.saved().commit().min(self.most)
+        self.cut.count
     }
 
     /// Whether the node has committed the end of its epoch.
     pub fn has_ended(&self) -> bool
         ensures { result ≡ reaches_end self.now.most (committed_entries self.now.node.saved) }
     {
-        self.node.saved().commit() >= self.most
+        self.cut.ended
+    }
+
+    /// What the node does under its number in its epoch.
+    pub fn standing(&self) -> Standing
+        ensures { result ≡ standing_of self.now }
+    {
+        self.standing
+    }
+
+    /// The node's own token, which is 0 for those that begin a desk.
+    pub fn token(&self) -> u64
+        ensures { result ≡ self.now.token }
+    {
+        self.token
     }
 
     /// Whether the places of one epoch more are within their limit.

@@ -1,29 +1,39 @@
-//! What an epoch keeps of the logs of past epochs: how long they are together, and each client's latest entry in them.
+//! What an epoch keeps of the logs of past epochs: how long they are together, each client's latest entry in them, and
+//! the replacements that they name.
 
 ghost use Rattle.std.specs.Prelude.{◌≡◌, ◌==◌, ◌≤◌, ◌+◌, ◌++◌, ℕ, [], List, length, if◌then◌else◌, Some, IfOk, OnOk};
 ghost use Rattle.desk_types.specs.declared.command.Entry.{Entry as AnEntry};
 ghost use Rattle.desk_types.specs.declared.limits.TheConstants.{LAST_PLACE};
 ghost use Rattle.desk_epochs.specs.OneLog.{new_where};
 ghost use Rattle.desk_epoch_node.specs.PastRows.{AreLatestRows, StandFor, decided, one_log_admission, latest_row};
+ghost use Rattle.desk_epoch_node.specs.Replacements.{named_by, replacements, with_replacement};
 
 use crate::past_row::PastRow;
+use crate::replacement::{Replacement, named_by};
 use desk_log::{Admission, Log};
 use desk_types::{ClientId, Entry, RequestNumber, WantOfMemory};
 use std::alloc::Global;
 use std::collections::BTreeMap;
 use std::marker::Model;
 
-/// The logs of past epochs, one after the other, as an epoch keeps them: the rows of their clients, and no entries.
-/// They have at most 999,999,999,999 entries.
+/// The logs of past epochs, one after the other, as an epoch keeps them: the rows of their clients, the replacements
+/// that they name, and no entries. They have at most 999,999,999,999 entries.
 pub struct PastLogs {
     rows: BTreeMap<u64, PastRow>,
     length: u64,
+    replacements: Vec<Replacement>,
+    alloc: Global,
 }
 
 // Written out, so that callers need not prove each part's drop.
 impl Drop for PastLogs {
     fn drop(self) {
-        let PastLogs { rows: _, length: _ } = self;
+        let PastLogs {
+            rows: _,
+            length: _,
+            replacements: _,
+            alloc: _,
+        } = self;
     }
 }
 
@@ -34,7 +44,11 @@ impl Model for PastLogs {
 
     ghost Value = { PastValue };
 
-    ghost view = { λ p. record { rows = p.rows.entries; length = p.length } };
+    ghost view = { λ p. record {
+      rows = p.rows.entries;
+      length = p.length;
+      replacements = p.replacements.items;
+    } };
 
     ghost invariant = { λ p. p.length ≤ LAST_PLACE };
 }
@@ -104,6 +118,40 @@ fn set_rows(
     Ok(())
 }
 
+/// Equal replacements.
+fn copy_replacements(
+    alloc: Global,
+    replacements: &[Replacement],
+) -> Result<Vec<Replacement>, WantOfMemory>
+    ensures { IfOk result (λ copies. copies.items ≡ replacements.now) }
+{
+    let mut copies = Vec::new(alloc);
+    for replacement in replacements {
+        copies.push(*replacement)?;
+    }
+    Ok(copies)
+}
+
+/// Puts the replacement that an entry names last, where it names one.
+fn push_replacement(all: &mut Vec<Replacement>, entry: &Entry) -> Result<(), WantOfMemory>
+    ensures { OnOk result (all.new.items ≡ all.old.items ++ with_replacement (named_by entry.now) []) }
+{
+    if let Some(named) = named_by(entry) {
+        all.push(named)?;
+    }
+    Ok(())
+}
+
+/// Puts the replacements that these entries name last.
+fn push_replacements(all: &mut Vec<Replacement>, entries: &[Entry]) -> Result<(), WantOfMemory>
+    ensures { OnOk result (all.new.items ≡ all.old.items ++ replacements entries.now) }
+{
+    for entry in entries {
+        push_replacement(all, entry)?;
+    }
+    Ok(())
+}
+
 impl PastLogs {
     /// No entries, as before the first epoch. It takes no memory.
     pub fn new(alloc: Global) -> PastLogs
@@ -113,6 +161,8 @@ impl PastLogs {
         PastLogs {
             rows: BTreeMap::new(alloc),
             length: 0,
+            replacements: Vec::new(alloc),
+            alloc,
         }
     }
 
@@ -122,6 +172,13 @@ impl PastLogs {
         ensures within { result ≤ LAST_PLACE }
     {
         self.length
+    }
+
+    /// The replacements that they name, in their order.
+    pub fn replacements(&self) -> &[Replacement]
+        ensures { result.now ≡ self.now.replacements }
+    {
+        self.replacements.as_slice()
     }
 
     /// The row of a client.
@@ -162,9 +219,13 @@ impl PastLogs {
     {
         let mut rows = copy_rows(&self.rows)?;
         set_rows(&mut rows, self.length, entries)?;
+        let mut replacements = copy_replacements(self.alloc, self.replacements.as_slice())?;
+        push_replacements(&mut replacements, entries)?;
         Ok(PastLogs {
             rows,
             length: self.length + entries.len() as u64,
+            replacements,
+            alloc: self.alloc,
         })
     }
 }

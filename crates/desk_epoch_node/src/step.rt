@@ -31,6 +31,10 @@ pub enum EpochStep {
         to: u8,
         packet: Packet,
     },
+    /// Packets of the node's epoch ask all others for what the node lacks.
+    AskAll {
+        packets: Vec<(u8, Packet)>,
+    },
     /// A node is to be sent the log of a past epoch after a place.
     Tell {
         to: u8,
@@ -43,6 +47,8 @@ pub enum EpochStep {
         log: Log,
         packets: Vec<(u8, Packet)>,
     },
+    /// The node was replaced: another one acts under its number, and it is to stop.
+    Replaced,
 }
 
 /// The node of an epoch that ended, and what its node of the next epoch sends first.

@@ -1,6 +1,6 @@
 -- What a step of a node over epochs leaves as it is.
 use Rattle.std.proofs.Common.{◌≡◌, ℕ, ◌+◌, Bool, true, false, ◌&&◌, List, ◌++◌, length, refl, sym, ap, subst}
-use Rattle.std.proofs.Common.{◌∙◌, Option, Some, None, eqb, leb}
+use Rattle.std.proofs.Common.{◌∙◌, Option, Some, None, leb, length-append}
 use Rattle.std.proofs.lemmas.Bool.{and_parts}
 use Rattle.std.proofs.lemmas.Option.{none-some, same_Some}
 use Rattle.std.specs.Prelude.{Result, Ok, Err, IfOk, OnErr}
@@ -14,12 +14,15 @@ use Rattle.desk_log.proofs.Prefixes.{prefix_refl, prefix_take}
 use Rattle.desk_node.specs.declared.event.Event.{Event}
 use Rattle.desk_node.specs.NodeValue.{NodeValue, IsSameNode}
 use Rattle.desk_epoch_node.specs.declared.deed.Deed.{Deed}
-use Rattle.desk_epoch_node.specs.declared.deed.Deed.TheVariants.{Ignore, Own, Answer, Refuse, Keep, Ask, Tell, Take}
+use Rattle.desk_epoch_node.specs.declared.deed.Deed.TheVariants.{Ignore, Own, Answer, Refuse, Keep, Ask, AskAll, Tell}
+use Rattle.desk_epoch_node.specs.declared.deed.Deed.TheVariants.{Take, Stop}
 use Rattle.desk_epoch_node.specs.declared.step.EpochStep.{EpochStep}
 use Rattle.desk_epoch_node.specs.declared.step.EpochStep.TheVariants as steps
-use Rattle.desk_epoch_node.specs.Does.{BeginsAfter, DoesDeed, IsBegun, IsOwn, IsTaken, is_rest, whole_log}
+use Rattle.desk_epoch_node.specs.Does.{BeginsAfter, DoesDeed, IsAskAll, IsBegun, IsOwn, IsTaken, is_rest}
+use Rattle.desk_epoch_node.specs.Does.{whole_log}
+use Rattle.desk_epoch_node.specs.Ends.{is_whole}
 use Rattle.desk_epoch_node.specs.EpochValue.{EpochValue, committed_cut, has_next}
-use Rattle.desk_epoch_node.specs.PastRows.{StandFor}
+use Rattle.desk_epoch_node.specs.PastRows.{PastValue, StandFor}
 use Rattle.desk_epoch_node.proofs.PreservedHistories.{steps_keep}
 use Rattle.desk_epoch_replica.specs.Follows.{EpochFollows, StaysInEpoch}
 use Rattle.desk_epoch_replica.specs.MemberValue.{HasPast}
@@ -42,6 +45,7 @@ stays_same old new is =
       epoch_is = refl;
       past_is = refl;
       most_is = refl;
+      token_is = refl;
       committed = prefix_refl (committed_entries old.node.saved);
     })
 
@@ -52,6 +56,7 @@ own_stays event old new (steps.Own step) d = record {
   epoch_is = d.epoch_is;
   past_is = d.past_is;
   most_is = d.most_is;
+  token_is = d.token_is;
   committed = d.committed;
 }
 own_stays event old new steps.Nothing d = absurd d
@@ -59,6 +64,8 @@ own_stays event old new (steps.Known client number place) d = absurd d
 own_stays event old new (steps.Refused client number refusal) d = absurd d
 own_stays event old new (steps.Deferred entry) d = absurd d
 own_stays event old new (steps.Ask to packet) d = absurd d
+own_stays event old new (steps.AskAll packets) d = absurd d
+own_stays event old new steps.Replaced d = absurd d
 own_stays event old new (steps.Tell to epoch base) d = absurd d
 own_stays event old new (steps.Began log packets) d = absurd d
 
@@ -71,6 +78,8 @@ begun_tells past whole old new (steps.Known client number place) d = absurd d
 begun_tells past whole old new (steps.Refused client number refusal) d = absurd d
 begun_tells past whole old new (steps.Deferred entry) d = absurd d
 begun_tells past whole old new (steps.Ask to packet) d = absurd d
+begun_tells past whole old new (steps.AskAll packets) d = absurd d
+begun_tells past whole old new steps.Replaced d = absurd d
 begun_tells past whole old new (steps.Tell to epoch base) d = absurd d
 begun_tells past whole old new (steps.Own step) d = absurd d
 
@@ -83,8 +92,22 @@ begun_after past whole old new (steps.Known client number place) d = absurd d
 begun_after past whole old new (steps.Refused client number refusal) d = absurd d
 begun_after past whole old new (steps.Deferred entry) d = absurd d
 begun_after past whole old new (steps.Ask to packet) d = absurd d
+begun_after past whole old new (steps.AskAll packets) d = absurd d
+begun_after past whole old new steps.Replaced d = absurd d
 begun_after past whole old new (steps.Tell to epoch base) d = absurd d
 begun_after past whole old new (steps.Own step) d = absurd d
+
+ask_all_stays : (old new : EpochValue) (made : EpochStep) → IsAskAll old new made → StaysInEpoch old new
+ask_all_stays old new (steps.AskAll packets) d = stays_same old new d.1
+ask_all_stays old new steps.Nothing d = absurd d
+ask_all_stays old new (steps.Own step) d = absurd d
+ask_all_stays old new (steps.Known client number place) d = absurd d
+ask_all_stays old new (steps.Refused client number refusal) d = absurd d
+ask_all_stays old new (steps.Deferred entry) d = absurd d
+ask_all_stays old new (steps.Ask to packet) d = absurd d
+ask_all_stays old new (steps.Tell to epoch base) d = absurd d
+ask_all_stays old new steps.Replaced d = absurd d
+ask_all_stays old new (steps.Began log packets) d = absurd d
 
 taken_stays : (rest : Bool) (past whole : List Entry) (old new : EpochValue) (made : EpochStep) →
     reported_log made ≡ None → IsTaken rest past whole old new made → StaysInEpoch old new
@@ -101,6 +124,8 @@ deed_stays past (Answer client number place) old new made none d = stays_same ol
 deed_stays past (Refuse client number refusal) old new made none d = stays_same old new d.1
 deed_stays past (Keep entry) old new made none d = stays_same old new d.1
 deed_stays past (Ask to) old new made none d = stays_same old new d.1
+deed_stays past AskAll old new made none d = ask_all_stays old new made d
+deed_stays past Stop old new made none d = stays_same old new d.1
 deed_stays past (Tell to epoch base) old new made none d = stays_same old new d.1
 deed_stays past (Take base entries) old new made none d =
     taken_stays (is_rest old base entries) past (whole_log old base entries) old new made none d
@@ -112,7 +137,7 @@ rest_keeps old base entries h =
     let whole : List Entry = whole_log old base entries in
     let p =
     and_parts
-    (has_next old && leb base (length (committed_cut old)) && eqb (base + length entries) old.most)
+    (has_next old && leb base (length (committed_cut old)) && is_whole old.most whole)
     (keeps_committed old.node.saved whole) h in
     let preserved = (keeps_committed-Decides old.node.saved whole).0 p.1 in
     subst (λ (own : List Entry). IsLogPrefix own whole) (sym preserved.1) (prefix_take old.node.saved.commit whole)
@@ -123,6 +148,7 @@ record Enters (past log : List Entry) (old new : EpochValue) : Type 0 where
   epoch_is : new.epoch ≡ old.epoch + 1
   past_is : StandFor (past ++ log) new.past
   most_is : new.most ≡ old.most
+  token_is : new.token ≡ old.token
   committed : IsLogPrefix (committed_entries old.node.saved) log
 
 no_log : {A : Type 0} (log : List Entry) (made other : EpochStep) → reported_log made ≡ Some log → made ≡ other →
@@ -138,8 +164,23 @@ own_tells_none event old new (steps.Known client number place) d = absurd d
 own_tells_none event old new (steps.Refused client number refusal) d = absurd d
 own_tells_none event old new (steps.Deferred entry) d = absurd d
 own_tells_none event old new (steps.Ask to packet) d = absurd d
+own_tells_none event old new (steps.AskAll packets) d = absurd d
+own_tells_none event old new steps.Replaced d = absurd d
 own_tells_none event old new (steps.Tell to epoch base) d = absurd d
 own_tells_none event old new (steps.Began log packets) d = absurd d
+
+pub ask_all_tells_none : (old new : EpochValue) (made : EpochStep) → IsAskAll old new made →
+    reported_log made ≡ None
+ask_all_tells_none old new (steps.AskAll packets) d = refl
+ask_all_tells_none old new steps.Nothing d = absurd d
+ask_all_tells_none old new (steps.Own step) d = absurd d
+ask_all_tells_none old new (steps.Known client number place) d = absurd d
+ask_all_tells_none old new (steps.Refused client number refusal) d = absurd d
+ask_all_tells_none old new (steps.Deferred entry) d = absurd d
+ask_all_tells_none old new (steps.Ask to packet) d = absurd d
+ask_all_tells_none old new (steps.Tell to epoch base) d = absurd d
+ask_all_tells_none old new steps.Replaced d = absurd d
+ask_all_tells_none old new (steps.Began log packets) d = absurd d
 
 begun_enters : (past whole : List Entry) (old new : EpochValue) (packets : List (ℕ × Message)) →
     IsLogPrefix (committed_entries old.node.saved) whole → BeginsAfter past whole old new packets →
@@ -153,6 +194,7 @@ begun_enters past whole old new packets f b = record {
   epoch_is = b.epoch_is;
   past_is = b.past_is;
   most_is = b.most_is;
+  token_is = b.token_is;
   committed = f;
 }
 
@@ -179,10 +221,19 @@ deed_enters past (Refuse client number refusal) log old new made some d =
     no_log log made (steps.Refused client number refusal) some d.0 refl
 deed_enters past (Keep entry) log old new made some d = no_log log made (steps.Deferred entry) some d.0 refl
 deed_enters past (Ask to) log old new made some d = no_log log made _ some d.0 refl
+deed_enters past AskAll log old new made some d =
+    no_log log made made some refl (ask_all_tells_none old new made d)
+deed_enters past Stop log old new made some d = no_log log made steps.Replaced some d.0 refl
 deed_enters past (Tell to epoch base) log old new made some d =
     no_log log made (steps.Tell to epoch base) some d.0 refl
 deed_enters past (Take base entries) log old new made some d =
     taken_enters (is_rest old base entries) past base entries log old new made refl some d
+
+-- past logs are longer by a log that was told
+entered_length : (past log : List Entry) (old new : PastValue) → StandFor past old → StandFor (past ++ log) new →
+    new.length ≡ old.length + length log
+entered_length past log old new s t =
+    t.length_is ∙ length-append past log ∙ ap (λ (n : ℕ). n + length log) (sym s.length_is)
 
 follows_by : (asked : List Entry → Deed) (old new : EpochValue) (made : EpochStep) (log : Option (List Entry)) →
     reported_log made ≡ log → HasPast old.past →
@@ -196,7 +247,9 @@ follows_by asked old new made (Some log) is (past, s) does =
       same = e.same;
       epoch_is = e.epoch_is;
       past_is = λ p t. (deed_enters p (asked p) log old new made is (does p t)).past_is;
+      length_is = entered_length past log old.past new.past s e.past_is;
       most_is = e.most_is;
+      token_is = e.token_is;
       committed = e.committed;
     }
 

@@ -4,7 +4,9 @@ use Rattle.desk_types.specs.declared.command.Entry.{Entry}
 use Rattle.desk_log.specs.Entries.{IsLogPrefix}
 use Rattle.desk_log.specs.SavedValue.{committed_entries}
 use Rattle.desk_log.proofs.Prefixes.{length-prefix, prefix_take, prefix_trans, take-prefix}
+use Rattle.desk_epochs.proofs.RisingHistories.{cut_is_prefix}
 use Rattle.desk_epoch_node.specs.EpochValue.{EpochValue, committed_cut}
+use Rattle.desk_epoch_node.specs.Replacements.{ends_epoch}
 
 -- So many entries stand in both logs.
 abbrev pub IsKnownIn : ℕ → List Entry → List Entry → Type 0
@@ -22,7 +24,8 @@ front_known known front last log is f g =
 pub cut_in_log : (e : EpochValue) → IsLogPrefix (committed_cut e) e.node.saved.log
 cut_in_log e =
     prefix_trans (committed_cut e) (committed_entries e.node.saved) e.node.saved.log
-    (prefix_take e.most (committed_entries e.node.saved)) (prefix_take e.node.saved.commit e.node.saved.log)
+    (cut_is_prefix ends_epoch e.most (committed_entries e.node.saved))
+    (prefix_take e.node.saved.commit e.node.saved.log)
 
 -- What was committed when the replica was saved last stands in each log that begins with it.
 pub cut_known : (known : ℕ) (e : EpochValue) (last log : List Entry) → known ≡ length (committed_cut e) →
@@ -31,7 +34,7 @@ cut_known known e last log is saved f =
     front_known known (committed_cut e) last log is
     (subst (λ (l : List Entry). IsLogPrefix (committed_cut e) l) (sym saved) (cut_in_log e))
     (prefix_trans (committed_cut e) (committed_entries e.node.saved) log
-    (prefix_take e.most (committed_entries e.node.saved)) f)
+    (cut_is_prefix ends_epoch e.most (committed_entries e.node.saved)) f)
 
 -- as many entries as are committed, up to the epoch's end, are those
 pub cut_is : (e : EpochValue) (count : ℕ) → count ≡ length (committed_cut e) →

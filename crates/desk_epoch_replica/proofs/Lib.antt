@@ -3,3 +3,4 @@ pub mod KnownEntries
 pub mod SavedFronts
 pub mod UntakenLogs
 pub mod ReplicaSteps
+pub mod DeferringSteps

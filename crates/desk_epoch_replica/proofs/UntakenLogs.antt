@@ -4,6 +4,7 @@ use Rattle.std.proofs.Common.{eqb, ltb}
 use Rattle.std.proofs.Common.{subst}
 use Rattle.std.specs.Prelude.{Result, Ok, Err, IfOk}
 use Rattle.desk_types.specs.declared.command.Entry.{Entry}
+use Rattle.desk_types.specs.declared.epoch_packet.EpochPacket.{EpochPacket}
 use Rattle.desk_types.specs.declared.epoch_packet.Purpose.{Purpose}
 use Rattle.desk_types.specs.declared.epoch_packet.Purpose.TheVariants as purposes
 use Rattle.desk_types.specs.declared.packet.Message.{Message}
@@ -13,19 +14,24 @@ use Rattle.desk_types.specs.Packet.{sender}
 use Rattle.desk_log.specs.declared.admission.Admission.{Admission}
 use Rattle.desk_log.specs.declared.admission.Admission.TheVariants as admissions
 use Rattle.desk_epoch_node.specs.declared.deed.Deed.{Deed}
-use Rattle.desk_epoch_node.specs.declared.deed.Deed.TheVariants.{Ignore, Own, Answer, Refuse, Keep, Ask, Tell, Take}
+use Rattle.desk_epoch_node.specs.declared.deed.Deed.TheVariants.{Ignore, Own, Answer, Refuse, Keep, Ask, AskAll, Tell}
+use Rattle.desk_epoch_node.specs.declared.deed.Deed.TheVariants.{Take, Stop}
 use Rattle.desk_epoch_node.specs.declared.step.EpochStep.{EpochStep}
-use Rattle.desk_epoch_node.specs.Deeds.{asks_other, deed_by, deed_here, is_other, looks_back, packet_deed}
-use Rattle.desk_epoch_node.specs.Deeds.{telling}
+use Rattle.desk_epoch_node.specs.declared.event.EpochEvent.TheVariants as comes
+use Rattle.desk_epoch_node.specs.declared.standing.Standing.{Standing}
+use Rattle.desk_epoch_node.specs.declared.standing.Standing.TheVariants.{Acts, Awaits, Replaced}
+use Rattle.desk_epoch_node.specs.Deeds.{asks_later, asks_other, awaiting_packet, deed_by, deed_here, deed_under}
+use Rattle.desk_epoch_node.specs.Deeds.{is_other, looks_back, packet_deed, telling}
 use Rattle.desk_epoch_node.specs.Does.{DoesDeed}
-use Rattle.desk_epoch_node.specs.EpochValue.{EpochValue, has_next, reaches_end}
+use Rattle.desk_epoch_node.specs.Ends.{reaches_end}
+use Rattle.desk_epoch_node.specs.EpochValue.{EpochValue, has_next, standing_of}
 use Rattle.desk_epoch_node.specs.PastRows.{StandFor, one_log_admission}
 use Rattle.desk_epoch_replica.specs.declared.item.EpochItem.{EpochItem}
 use Rattle.desk_epoch_replica.specs.declared.item.EpochItem.TheVariants as items
-use Rattle.desk_epoch_replica.specs.Items.{MemberMeets, is_tell, item_deed}
+use Rattle.desk_epoch_replica.specs.Items.{MemberMeets, event_of_tick, is_tell, item_deed}
 use Rattle.desk_epoch_replica.specs.MemberValue.{HasPast, MemberValue, member_suspects}
 use Rattle.desk_epoch_replica.specs.Steps.{reported_log}
-use Rattle.desk_epoch_replica.proofs.FollowedSteps.{own_tells_none}
+use Rattle.desk_epoch_replica.proofs.FollowedSteps.{ask_all_tells_none, own_tells_none}
 
 -- whether entries are taken
 abbrev takes_entries : Deed → Bool
@@ -61,28 +67,56 @@ telling_takes_none e epoch (DoViewChange from view normal commit log) = refl
 telling_takes_none e epoch (StartView from view commit log) = refl
 telling_takes_none e epoch (NewState from view base commit entries) = refl
 
-packet_takes_none : (e : EpochValue) (purpose : Purpose) (epoch : ℕ) (packet : Message) →
+-- a packet that comes to a node that acts, where no log is taken
+acting_takes_none : (e : EpochValue) (purpose : Purpose) (epoch : ℕ) (packet : Message) →
     takes_entries (cond (not false && is_tell purpose) Ignore (packet_deed e purpose epoch packet)) ≡ false
-packet_takes_none e purposes.Step epoch packet =
+acting_takes_none e purposes.Step epoch packet =
     of_either (eqb epoch e.epoch) _ _ refl (other_takes_none e (sender packet))
-packet_takes_none e purposes.Ask epoch packet =
+acting_takes_none e purposes.Ask epoch packet =
     of_either (ltb epoch e.epoch) _ _ (telling_takes_none e epoch packet)
     (of_either (eqb epoch e.epoch) _ _ refl (other_takes_none e (sender packet)))
-packet_takes_none e purposes.Tell epoch packet = refl
+acting_takes_none e purposes.Tell epoch packet = refl
 
-tick_takes_none : (past : List Entry) (m : MemberValue) (late : Bool) → member_suspects m ≡ late →
-    takes_entries (item_deed past false m items.Tick) ≡ false
-tick_takes_none past m true is = rw is refl
-tick_takes_none past m false is = rw is refl
+later_takes_none : (e : EpochValue) (epoch : ℕ) (packet : Message) →
+    takes_entries (asks_later e epoch packet) ≡ false
+later_takes_none e epoch packet = of_either (ltb e.epoch epoch) _ _ (other_takes_none e (sender packet)) refl
+
+-- and to one that awaits its number
+awaiting_takes_none : (e : EpochValue) (purpose : Purpose) (epoch : ℕ) (packet : Message) →
+    takes_entries (cond (not false && is_tell purpose) Ignore (awaiting_packet e purpose epoch packet)) ≡ false
+awaiting_takes_none e purposes.Step epoch packet = later_takes_none e epoch packet
+awaiting_takes_none e purposes.Ask epoch packet = later_takes_none e epoch packet
+awaiting_takes_none e purposes.Tell epoch packet = refl
+
+packet_takes_none : (s : Standing) (past : List Entry) (e : EpochValue) (p : EpochPacket) →
+    takes_entries (cond (not false && is_tell p.purpose) Ignore (deed_under s past e (comes.Packet p))) ≡ false
+packet_takes_none Acts past e p = acting_takes_none e p.purpose p.epoch p.packet
+packet_takes_none Awaits past e p = awaiting_takes_none e p.purpose p.epoch p.packet
+packet_takes_none Replaced past e p = of_either (not false && is_tell p.purpose) _ _ refl refl
+
+request_takes_none : (s : Standing) (past : List Entry) (e : EpochValue) (entry : Entry) →
+    takes_entries (deed_under s past e (comes.Request entry)) ≡ false
+request_takes_none Acts past e entry =
+    of_either (looks_back e entry) _ _
+    (by_takes_none e entry (one_log_admission past e.node.saved.log entry.client entry.number))
+    (here_takes_none e entry)
+request_takes_none Awaits past e entry = refl
+request_takes_none Replaced past e entry = refl
+
+tick_takes_none : (s : Standing) (past : List Entry) (e : EpochValue) (late : Bool) →
+    takes_entries (deed_under s past e (event_of_tick late)) ≡ false
+tick_takes_none Acts past e true = refl
+tick_takes_none Acts past e false = refl
+tick_takes_none Awaits past e true = refl
+tick_takes_none Awaits past e false = refl
+tick_takes_none Replaced past e true = refl
+tick_takes_none Replaced past e false = refl
 
 item_takes_none : (past : List Entry) (m : MemberValue) (item : EpochItem) →
     takes_entries (item_deed past false m item) ≡ false
-item_takes_none past m (items.Request entry) =
-    of_either (looks_back m.node entry) _ _
-    (by_takes_none m.node entry (one_log_admission past m.node.node.saved.log entry.client entry.number))
-    (here_takes_none m.node entry)
-item_takes_none past m (items.Packet p) = packet_takes_none m.node p.purpose p.epoch p.packet
-item_takes_none past m items.Tick = tick_takes_none past m (member_suspects m) refl
+item_takes_none past m (items.Request entry) = request_takes_none (standing_of m.node) past m.node entry
+item_takes_none past m (items.Packet p) = packet_takes_none (standing_of m.node) past m.node p
+item_takes_none past m items.Tick = tick_takes_none (standing_of m.node) past m.node (member_suspects m)
 
 -- A deed that takes no entries tells no log.
 untaken : (past : List Entry) (asked : Deed) (old new : EpochValue) (made : EpochStep) →
@@ -93,7 +127,9 @@ untaken past (Answer client number place) old new made is d = ap reported_log d.
 untaken past (Refuse client number refusal) old new made is d = ap reported_log d.0
 untaken past (Keep entry) old new made is d = ap reported_log d.0
 untaken past (Ask to) old new made is d = ap reported_log d.0
+untaken past AskAll old new made is d = ask_all_tells_none old new made d
 untaken past (Tell to epoch base) old new made is d = ap reported_log d.0
+untaken past Stop old new made is d = ap reported_log d.0
 untaken past (Take base entries) old new made is d = let e : true ≡ false = is in cc
 
 pub item_untaken : (past : List Entry) (m : MemberValue) (item : EpochItem) (new : EpochValue) (made : EpochStep) →

@@ -1,5 +1,5 @@
 -- What items leave as it is.
-use Rattle.std.specs.Prelude.{◌≡◌, ◌⊎◌, ◌+◌, Bool, true, List, ◌++◌, Option, Some, None}
+use Rattle.std.specs.Prelude.{◌≡◌, ◌⊎◌, ◌+◌, Bool, true, List, ◌++◌, length, Option, Some, None}
 use Rattle.std.specs.Option.{is_some}
 use Rattle.desk_types.specs.declared.command.Entry.{Entry}
 use Rattle.desk_log.specs.Entries.{IsLogPrefix}
@@ -20,6 +20,7 @@ pub record StaysInEpoch (old new : EpochValue) : Type 0 where
   pub epoch_is : new.epoch ≡ old.epoch
   pub past_is : new.past ≡ old.past
   pub most_is : new.most ≡ old.most
+  pub token_is : new.token ≡ old.token
   pub committed : IsLogPrefix (committed_entries old.node.saved) (committed_entries new.node.saved)
 
 -- The node is the same, in the next epoch. It was told this log of the epoch before, which begins with all that it had
@@ -28,7 +29,9 @@ pub record BeginsReported (log : List Entry) (old new : EpochValue) : Type 0 whe
   pub same : IsSameNode old.node new.node
   pub epoch_is : new.epoch ≡ old.epoch + 1
   pub past_is : (past : List Entry) → StandFor past old.past → StandFor (past ++ log) new.past
+  pub length_is : new.past.length ≡ old.past.length + length log
   pub most_is : new.most ≡ old.most
+  pub token_is : new.token ≡ old.token
   pub committed : IsLogPrefix (committed_entries old.node.saved) log
 
 -- The node stays in its epoch where it was told no log, and else begins the next.

@@ -1,18 +1,21 @@
 -- A replica follows what it was where nothing is done, and over two parts of a time. What it has committed over all
 -- epochs stays committed. And what its saves leave.
-use Rattle.std.proofs.Common.{◌≡◌, ℕ, ◌+◌, List, [], ◌∷◌, ◌++◌, length, take, refl, sym, ap, subst}
-use Rattle.std.proofs.Common.{◌∙◌, inl, inr, arith}
+use Rattle.std.proofs.Common.{◌≡◌, ℕ, ◌+◌, List, [], ◌∷◌, ◌++◌, length, refl, sym, ap, subst, ◌∙◌, inl, inr}
 use Rattle.std.specs.Option.{is_some}
 use Rattle.std.proofs.lemmas.Option.{none-some}
 use Rattle.desk_types.specs.declared.command.Entry.{Entry}
 use Rattle.desk_log.specs.Entries.{IsLogPrefix}
 use Rattle.desk_log.specs.SavedValue.{committed_entries}
 use Rattle.desk_log.specs.declared.state_store.StateStore.{Ghosts}
-use Rattle.desk_log.proofs.Prefixes.{prefix_append, prefix_refl, prefix_take, prefix_trans, take_take-prefix}
+use Rattle.desk_log.proofs.Prefixes.{prefix_append, prefix_refl, prefix_trans}
 use Rattle.desk_node.specs.NodeValue.{NodeValue, IsSameNode}
+use Rattle.desk_epochs.proofs.Histories.{cut_prefix}
+use Rattle.desk_epochs.proofs.RisingHistories.{cut_is_prefix}
+use Rattle.desk_epoch_node.specs.Ends.{cut_of}
 use Rattle.desk_epoch_node.specs.EpochValue.{EpochValue, committed_cut}
 use Rattle.desk_epoch_node.specs.Laws.{KeepsHistory}
 use Rattle.desk_epoch_node.specs.PastRows.{PastValue, StandFor}
+use Rattle.desk_epoch_node.specs.Replacements.{ends_epoch}
 use Rattle.desk_epoch_stores.specs.EpochEnds.{reported_saved}
 use Rattle.desk_epoch_replica.specs.Follows.{BeginsReported, ReplicaFollows, StaysInEpoch}
 use Rattle.desk_epoch_replica.specs.MemberValue.{MemberValue}
@@ -40,6 +43,7 @@ epoch_still e = record {
   epoch_is = refl;
   past_is = refl;
   most_is = refl;
+  token_is = refl;
   committed = prefix_refl (committed_entries e.node.saved);
 }
 
@@ -49,6 +53,7 @@ epoch_further old mid new h k = record {
   epoch_is = k.epoch_is ∙ h.epoch_is;
   past_is = k.past_is ∙ h.past_is;
   most_is = k.most_is ∙ h.most_is;
+  token_is = k.token_is ∙ h.token_is;
   committed = prefix_trans (committed_entries old.node.saved) (committed_entries mid.node.saved)
       (committed_entries new.node.saved) h.committed k.committed;
 }
@@ -60,7 +65,9 @@ stays_then_begins log old mid new h k = record {
   same = same_node_further old.node mid.node new.node h.same k.same;
   epoch_is = k.epoch_is ∙ ap (λ n. n + 1) h.epoch_is;
   past_is = λ past s. k.past_is past (subst (λ (p : PastValue). StandFor past p) (sym h.past_is) s);
+  length_is = k.length_is ∙ ap (λ (p : PastValue). p.length + length log) h.past_is;
   most_is = k.most_is ∙ h.most_is;
+  token_is = k.token_is ∙ h.token_is;
   committed = prefix_trans (committed_entries old.node.saved) (committed_entries mid.node.saved) log h.committed
       k.committed;
 }
@@ -72,7 +79,9 @@ begins_then_stays log old mid new h k = record {
   same = same_node_further old.node mid.node new.node h.same k.same;
   epoch_is = k.epoch_is ∙ h.epoch_is;
   past_is = λ past s. subst (λ (p : PastValue). StandFor (past ++ log) p) (sym k.past_is) (h.past_is past s);
+  length_is = ap (λ (p : PastValue). p.length) k.past_is ∙ h.length_is;
   most_is = k.most_is ∙ h.most_is;
+  token_is = k.token_is ∙ h.token_is;
   committed = h.committed;
 }
 
@@ -117,7 +126,7 @@ replica_further old mid new (s, inr h) (t, inl k) = (
 replica_further old mid new (s, inr h) (t, inr k) =
     absurd (none-some (reported_saved h.log) (sym k.none ∙ h.reported_is))
 
-after_past : (past xs ys : List Entry) → IsLogPrefix xs ys → IsLogPrefix (past ++ xs) (past ++ ys)
+pub after_past : (past xs ys : List Entry) → IsLogPrefix xs ys → IsLogPrefix (past ++ xs) (past ++ ys)
 after_past [] xs ys f = f
 after_past (e ∷ es) xs ys f = (refl, after_past es xs ys f)
 
@@ -126,11 +135,11 @@ stays_keeps : (past : List Entry) (old new : EpochValue) → StandFor past old.p
 stays_keeps past old new s h = (
   past,
   subst (λ (p : PastValue). StandFor past p) (sym h.past_is) s,
-  subst (λ (most : ℕ). IsLogPrefix (past ++ committed_cut old) (past ++ take most (committed_entries new.node.saved)))
+  subst (λ (most : ℕ). IsLogPrefix (past ++ committed_cut old) (past ++ cut_of most (committed_entries new.node.saved)))
       (sym h.most_is)
-      (after_past past (committed_cut old) (take old.most (committed_entries new.node.saved))
-      (take_take-prefix old.most old.most (committed_entries old.node.saved) (committed_entries new.node.saved)
-      (omega arith) h.committed)),
+      (after_past past (committed_cut old) (cut_of old.most (committed_entries new.node.saved))
+      (cut_prefix ends_epoch old.most (committed_entries old.node.saved) (committed_entries new.node.saved)
+      h.committed)),
 )
 
 begins_keeps : (past log : List Entry) (old new : EpochValue) → StandFor past old.past → BeginsReported log old new →
@@ -141,7 +150,7 @@ begins_keeps past log old new s h = (
   prefix_trans (past ++ committed_cut old) (past ++ log) ((past ++ log) ++ committed_cut new)
       (after_past past (committed_cut old) log
       (prefix_trans (committed_cut old) (committed_entries old.node.saved) log
-      (prefix_take old.most (committed_entries old.node.saved)) h.committed))
+      (cut_is_prefix ends_epoch old.most (committed_entries old.node.saved)) h.committed))
       (prefix_append (past ++ log) (committed_cut new)),
 )
 

@@ -4,6 +4,7 @@ use Rattle.desk_types.specs.declared.command.Entry.{Entry}
 use Rattle.desk_types.specs.declared.epoch_packet.Purpose.{Purpose}
 use Rattle.desk_types.specs.declared.epoch_packet.Purpose.TheVariants as purposes
 use Rattle.desk_types.specs.Packet.{sender}
+use Rattle.desk_types.specs.EpochPackets.{goes_by_rules}
 use Rattle.desk_log.specs.Quorum.{primary}
 use Rattle.desk_epoch_node.specs.declared.deed.Deed.{Deed}
 use Rattle.desk_epoch_node.specs.declared.deed.Deed.TheVariants.{Ignore}
@@ -16,13 +17,9 @@ use Rattle.desk_epoch_node.specs.Does.{DoesDeed}
 use Rattle.desk_epoch_node.specs.EpochValue.{EpochValue}
 use Rattle.desk_epoch_replica.specs.declared.item.EpochItem.{EpochItem}
 use Rattle.desk_epoch_replica.specs.declared.item.EpochItem.TheVariants as items
-use Rattle.desk_epoch_replica.specs.declared.limits.TheConstants.{ASK_TICKS, SUSPECT_TICKS}
+use Rattle.desk_types.specs.declared.limits.TheConstants.{SUSPECT_TICKS}
+use Rattle.desk_epoch_replica.specs.declared.limits.TheConstants.{ASK_TICKS}
 use Rattle.desk_epoch_replica.specs.MemberValue.{MemberValue, one_more_up_to, member_suspects}
-
--- whether a packet follows the rules of its epoch
-abbrev pub is_by_rules : Purpose → Bool
-is_by_rules purposes.Step = true
-is_by_rules purpose = false
 
 -- whether a packet tells a log
 abbrev pub is_tell : Purpose → Bool
@@ -44,7 +41,7 @@ item_deed past takes m items.Tick = deed past m.node (event_of_tick (member_susp
 -- whether it is a packet by the rules of the node's epoch, of the primary of the view that the node has then
 abbrev pub hears_primary : EpochValue → Purpose → ℕ → ℕ → Bool
 hears_primary e purpose epoch from =
-    is_by_rules purpose && (epoch == e.epoch) && (from == primary e.node.n e.node.saved.view)
+    goes_by_rules purpose && (epoch == e.epoch) && (from == primary e.node.n e.node.saved.view)
 
 -- whether the node began an epoch
 abbrev pub begins_epoch : EpochStep → Bool

@@ -5,3 +5,7 @@ pub mod ReplicaValue
 pub mod Follows
 pub mod Saves
 pub mod InOrder
+pub mod PastPackets
+pub mod Outgoing
+pub mod Deferring
+pub mod DeferringSaves

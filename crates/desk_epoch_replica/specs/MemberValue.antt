@@ -4,7 +4,8 @@ use Rattle.desk_types.specs.declared.command.Entry.{Entry}
 use Rattle.desk_log.specs.Change.{leads}
 use Rattle.desk_epoch_node.specs.EpochValue.{EpochValue}
 use Rattle.desk_epoch_node.specs.PastRows.{PastValue, StandFor}
-use Rattle.desk_epoch_replica.specs.declared.limits.TheConstants.{ASK_TICKS, SUSPECT_TICKS}
+use Rattle.desk_types.specs.declared.limits.TheConstants.{SUSPECT_TICKS}
+use Rattle.desk_epoch_replica.specs.declared.limits.TheConstants.{ASK_TICKS}
 
 -- a node over epochs, the ticks since it last heard of its primary or suspected it, the ticks since it last asked for a
 -- log, for each node the ticks since it was last told one, and how many items were refused

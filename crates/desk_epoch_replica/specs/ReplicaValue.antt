@@ -19,6 +19,17 @@ pub record ReplicaValue (T S : Type 0) : Type 0 where
 abbrev pub takes_logs : {T S : Type 0} → ReplicaValue T S → Bool
 takes_logs r = is_some r.next && not (is_some r.reported)
 
+-- the replica, with other stores of other epochs
+abbrev pub with_stores : {T S : Type 0} → T → ReplicaValue T S → ReplicaValue T S
+with_stores stores r = record {
+  member = r.member;
+  stores = stores;
+  current = r.current;
+  next = r.next;
+  reported = r.reported;
+  unsaved = r.unsaved;
+}
+
 -- Its stores are as they were.
 pub record HasSameStores {T S : Type 0} (old new : ReplicaValue T S) : Type 0 where
   pub stores_are : new.stores ≡ old.stores

@@ -29,12 +29,15 @@ step_to_send m (steps.Known client number place) = out.Answer (answers.Committed
 step_to_send m (steps.Refused client number refusal) = out.Answer (answers.Refused client number refusal)
 step_to_send m (steps.Deferred entry) = out.Answer (answers.Deferred entry)
 step_to_send m (steps.Ask to packet) = if may_ask m.ask_ticks then out.Ask m.node.epoch to packet else out.Nothing
+step_to_send m (steps.AskAll packets) = if may_ask m.ask_ticks then out.AskAll m.node.epoch packets else out.Nothing
 step_to_send m (steps.Tell to epoch base) = if may_tell m.tell_ticks to then out.Tell to epoch base else out.Nothing
 step_to_send m (steps.Began log packets) = out.Began m.node.epoch packets
+step_to_send m steps.Replaced = out.Replaced
 
 -- The ticks are counted again from an ask,
 abbrev pub ask_ticks_after : ℕ → EpochStep → ℕ
 ask_ticks_after ticks (steps.Ask to packet) = if may_ask ticks then 0 else ticks
+ask_ticks_after ticks (steps.AskAll packets) = if may_ask ticks then 0 else ticks
 ask_ticks_after ticks made = ticks
 
 -- and those of a node from a log that it is told.

@@ -4,9 +4,10 @@ ghost use Rattle.std.specs.Prelude.{◌≡◌, IfOk};
 ghost use Rattle.desk_epoch_node.specs.EpochValue.{committed_cut};
 ghost use Rattle.desk_epoch_replica.specs.MemberValue.{HasPast, new_member, member_suspects, member_refused_once};
 
-use crate::limits::{ASK_TICKS, SUSPECT_TICKS};
+use crate::limits::ASK_TICKS;
 use crate::ticking::{one_more, rows_at_start};
 use desk_epoch_node::EpochNode;
+use desk_types::limits::SUSPECT_TICKS;
 use desk_types::{Entry, WantOfMemory};
 use std::alloc::Global;
 use std::marker::Model;

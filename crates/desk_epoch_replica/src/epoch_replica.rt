@@ -7,22 +7,24 @@ ghost use Rattle.desk_types.specs.Group.{IsGroup};
 ghost use Rattle.desk_types.specs.declared.command.Entry.{Entry as AnEntry};
 ghost use Rattle.desk_types.specs.declared.refusal.Refusal.TheVariants as refusals;
 ghost use Rattle.desk_node.specs.NodeValue.{node_from};
+ghost use Rattle.desk_epoch_stores.specs.Starting.{MayHoldNoMore};
 ghost use Rattle.desk_epoch_node.specs.Does.{BeginsAfter};
 ghost use Rattle.desk_epoch_node.specs.PastRows.{StandFor};
 ghost use Rattle.desk_epoch_replica.specs.Follows.{ReplicaDoes, ReplicaFollows, ReplicaRefuses};
 ghost use Rattle.desk_epoch_replica.specs.Follows.{reported_after, unsaved_after};
 ghost use Rattle.desk_epoch_replica.specs.MemberValue.{HasPast, new_member};
-ghost use Rattle.desk_epoch_replica.specs.ReplicaValue.{ReplicaValue, takes_logs};
+ghost use Rattle.desk_epoch_replica.specs.ReplicaValue.{ReplicaValue, takes_logs, with_stores};
 ghost use Rattle.desk_epoch_replica.specs.Saves.{ReplicaBegins, FailsToSaveReplica, IsSavedReplica, SavesReplica};
+ghost use Rattle.desk_epoch_replica.specs.PastPackets.{IsPastPacket};
 ghost use Rattle.desk_epoch_replica.specs.Saves.{replica_base, replica_cut, may_begin};
 
 use crate::epoch_member::EpochMember;
 use crate::item::EpochItem;
 use crate::replica_step::ReplicaStep;
-use desk_epoch_node::{Ended, EpochNode};
+use desk_epoch_node::{Ended, EpochNode, tell_log};
 use desk_epoch_stores::{EpochStores, NodeStores, OpenedEpoch, reported_state};
 use desk_log::{Log, Saved, StateStore};
-use desk_types::{Entry, Owner, Refusal, WantOfMemory};
+use desk_types::{Entry, Owner, Packet, Refusal, WantOfMemory};
 use std::alloc::Global;
 use std::marker::Model;
 
@@ -63,13 +65,14 @@ impl<T: EpochStores> Model for EpochReplica<T> {
 }
 
 impl<T: EpochStores + Drop> EpochReplica<T> {
-    /// The replica of a node that starts in an epoch, with what opens the stores of others. It takes memory for each
-    /// node of the group.
+    /// The replica of a node that starts in an epoch, with its token, which is 0 for those that begin a desk, and with
+    /// what opens the stores of others. It takes memory for each node of the group.
     pub fn start(
         alloc: Global,
         stores: T,
         opened: OpenedEpoch<T>,
         owner: Owner,
+        token: u64,
     ) -> Result<EpochReplica<T>, WantOfMemory>
         requires group { IsGroup owner.n }
         requires id { owner.id < owner.n }
@@ -78,13 +81,14 @@ impl<T: EpochStores + Drop> EpochReplica<T> {
           epoch = opened.epoch;
           past = opened.past;
           most = opened.most;
+          token = token;
           node = node_from owner opened.saved;
         })) }
         ensures stores { IfOk result (λ r. (r.stores ≡ stores) × (r.current ≡ opened.store) × (r.next ≡ None)) }
         ensures reported { IfOk result (λ r. r.reported ≡ None) }
         ensures saved { IfOk result (λ r. IsSavedReplica T.Store.StateStore r) }
     {
-        let (node, store) = opened.into_node(alloc, owner);
+        let (node, store) = opened.into_node(alloc, owner, token);
         match EpochMember::new(alloc, node) {
             Ok(member) => Ok(EpochReplica {
                 member,
@@ -192,6 +196,20 @@ impl<T: EpochStores> EpochReplica<T> {
         Ok(step)
     }
 
+    /// The packet by which it tells the log of a past epoch after a place. None where the log has no such place, its
+    /// store cannot be opened or has an entry that is not committed, or memory is refused.
+    pub fn past_packet(&mut self, epoch: u64, base: u64) -> Option<Packet>
+        ensures packet { IfSome result (IsPastPacket (T.may_hold self.old.stores epoch) self.old.member.node base) }
+        ensures rest { self.new ≡ with_stores self.new.stores self.old }
+        ensures stores { MayHoldNoMore T.may_hold self.old.stores self.new.stores }
+    {
+        let left = self.stores.state_of(epoch)?;
+        if left.commit() < left.log().len() {
+            return None;
+        }
+        tell_log(self.member.node().node().id(), left.log(), base).ok()?
+    }
+
     /// Counts an item that was refused for want of memory.
     pub fn count_refused(&mut self)
         ensures refused { ReplicaRefuses self.old self.new }
@@ -202,7 +220,7 @@ impl<T: EpochStores> EpochReplica<T> {
 
     /// Saves what items made of it, where the caller knows how many entries `committed` had when it was saved last. Of
     /// a log that it was told the state with that log is saved first, in the store of its epoch, and then the first
-    /// state of the next epoch in the next store. After a fault, which is told as 41, nothing more may be saved.
+    /// state of the next epoch in the next store. After a `StoreFault` nothing more may be saved.
     pub fn save(&mut self, known: u64) -> Result<(), Refusal>
         requires { (before : ReplicaValue T T.Store) × IsSavedReplica T.Store.StateStore before
             × ReplicaFollows before self.old × (known ≡ length (replica_cut before)) }
@@ -227,8 +245,8 @@ impl<T: EpochStores> EpochReplica<T> {
         Ok(())
     }
 
-    /// Opens the store of the next epoch, where it is not open. Where memory is refused (40) nothing changes, and it
-    /// may be tried again. At 41 and 45 the replica cannot go on.
+    /// Opens the store of the next epoch, where it is not open. After `WantOfMemory` nothing has changed, and it may be
+    /// tried again. After another refusal the replica cannot go on.
     pub fn prepare(&mut self) -> Result<(), Refusal>
         ensures member { self.new.member ≡ self.old.member }
         ensures current { self.new.current ≡ self.old.current }
@@ -241,9 +259,9 @@ impl<T: EpochStores> EpochReplica<T> {
     }
 
     /// Begins the next epoch where it has committed the end of its own, there is one more, the next store is open, and
-    /// no log that it was told is unpublished. Ok is what is to be sent first, and the replica is saved. Err is 40
-    /// where memory is refused, and then nothing changes. It is 41 where the save failed; then nothing may be sent in
-    /// the new epoch, which a start finds as one that has not begun.
+    /// no log that it was told is unpublished. Ok is what is to be sent first, and the replica is saved. After
+    /// `WantOfMemory` nothing has changed. After `StoreFault` the save failed. Then nothing may be sent in the new
+    /// epoch, which a start finds as one that has not begun.
     pub fn begin_next(&mut self) -> Result<Option<ReplicaStep>, Refusal>
         requires saved { IsSavedReplica T.Store.StateStore self.old }
         ensures begun { IfOk result (λ begun. MatchOption begun (self.new ≡ self.old)

@@ -2,24 +2,26 @@
 
 ghost use Rattle.std.specs.Prelude.{◌≡◌, if◌then◌else◌, false, List, None, IfOk, OnErr};
 ghost use Rattle.desk_types.specs.declared.command.Entry.{Entry as AnEntry};
+ghost use Rattle.desk_types.specs.EpochPackets.{goes_by_rules};
 ghost use Rattle.desk_epoch_node.specs.PastRows.{StandFor};
 ghost use Rattle.desk_epoch_node.specs.Deeds.{deed};
 ghost use Rattle.desk_epoch_node.specs.Does.{DoesDeed};
 ghost use Rattle.desk_epoch_replica.specs.declared.item.EpochItem.TheVariants as items;
 ghost use Rattle.desk_epoch_replica.specs.Follows.{EpochFollows};
-ghost use Rattle.desk_epoch_replica.specs.Items.{MemberMeets, begins_epoch, hears_primary, is_by_rules, is_tell};
+ghost use Rattle.desk_epoch_replica.specs.Items.{MemberMeets, begins_epoch, hears_primary, is_tell};
 ghost use Rattle.desk_epoch_replica.specs.Steps.{reported_log};
 
 use crate::epoch_member::EpochMember;
 use crate::item::EpochItem;
-use crate::limits::{ASK_TICKS, SUSPECT_TICKS};
+use crate::limits::ASK_TICKS;
 use crate::ticking::{one_more, tick_event, tick_rows};
 use desk_epoch_node::{EpochEvent, EpochStep};
+use desk_types::limits::SUSPECT_TICKS;
 use desk_types::{Entry, EpochPacket, Purpose, WantOfMemory};
 
 /// Whether a packet follows the rules of its epoch.
 fn is_step(purpose: Purpose) -> bool
-    ensures { result ≡ is_by_rules purpose }
+    ensures { result ≡ goes_by_rules purpose }
 {
     match purpose {
         Purpose::Step => true,

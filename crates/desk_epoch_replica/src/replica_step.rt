@@ -42,6 +42,11 @@ pub enum ReplicaStep {
         to: u8,
         packet: Packet,
     },
+    /// Packets of this epoch that ask all others for what the replica lacks.
+    AskAll {
+        epoch: u64,
+        packets: Vec<(u8, Packet)>,
+    },
     /// A node is to be told the log of a past epoch after a place.
     Tell {
         to: u8,
@@ -53,4 +58,6 @@ pub enum ReplicaStep {
         epoch: u64,
         packets: Vec<(u8, Packet)>,
     },
+    /// The replica was replaced: another node acts under its number, and it is to stop.
+    Replaced,
 }

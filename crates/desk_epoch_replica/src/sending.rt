@@ -1,6 +1,6 @@
 //! What a member sends and answers for what its node did.
 
-ghost use Rattle.std.specs.Prelude.{◌≡◌, false, List, None, IfOk, OnErr};
+ghost use Rattle.std.specs.Prelude.{◌≡◌, false, if◌then◌else◌, List, None, IfOk, OnErr};
 ghost use Rattle.desk_types.specs.declared.command.Entry.{Entry as AnEntry};
 ghost use Rattle.desk_epoch_node.specs.declared.step.EpochStep.TheVariants as steps;
 ghost use Rattle.desk_epoch_node.specs.PastRows.{StandFor};
@@ -8,7 +8,7 @@ ghost use Rattle.desk_epoch_replica.specs.declared.replica_step.EpochAnswer.TheV
 ghost use Rattle.desk_epoch_replica.specs.declared.replica_step.ReplicaStep.TheVariants as out;
 ghost use Rattle.desk_epoch_replica.specs.Follows.{EpochFollows};
 ghost use Rattle.desk_epoch_replica.specs.MemberValue.{member_refused_once};
-ghost use Rattle.desk_epoch_replica.specs.Steps.{MemberDoes, after_sending, reported_log, step_to_send};
+ghost use Rattle.desk_epoch_replica.specs.Steps.{MemberDoes, after_sending, may_ask, reported_log, step_to_send};
 
 use crate::epoch_member::EpochMember;
 use crate::item::EpochItem;
@@ -42,21 +42,51 @@ fn refused(client: ClientId, number: RequestNumber, refusal: Refusal) -> Replica
 }
 
 impl EpochMember {
-    /// A packet that asks a node goes out, unless one went out shortly before.
+    /// Whether an ask may go out, and then does: the ticks are counted again.
+    fn starts_ask(&mut self) -> bool
+        ensures may { result ≡ may_ask self.old.ask_ticks }
+        ensures new { self.new ≡ record {
+          node = self.old.node;
+          ticks = self.old.ticks;
+          ask_ticks = if may_ask self.old.ask_ticks then 0 else self.old.ask_ticks;
+          tell_ticks = self.old.tell_ticks;
+          refused = self.old.refused;
+        } }
+    {
+        if self.ask_ticks != ASK_TICKS {
+            return false;
+        }
+        self.ask_ticks = 0;
+        true
+    }
+
+    /// A packet that asks a node goes out, unless an ask went out shortly before.
     fn ask(&mut self, to: u8, packet: Packet) -> ReplicaStep
         ensures new { self.new ≡ after_sending self.old (steps.Ask to packet) }
         ensures step { result ≡ step_to_send self.old (steps.Ask to packet) }
     {
-        if self.ask_ticks != ASK_TICKS {
+        if !self.starts_ask() {
             drop(packet);
             return ReplicaStep::Nothing;
         }
-        self.ask_ticks = 0;
         ReplicaStep::Ask {
             epoch: self.node.epoch(),
             to,
             packet,
         }
+    }
+
+    /// Packets that ask all others go out, unless an ask went out shortly before.
+    fn ask_all(&mut self, packets: Vec<(u8, Packet)>) -> ReplicaStep
+        ensures new { self.new ≡ after_sending self.old (steps.AskAll packets) }
+        ensures step { result ≡ step_to_send self.old (steps.AskAll packets) }
+    {
+        if !self.starts_ask() {
+            drop(packets);
+            return ReplicaStep::Nothing;
+        }
+        let epoch = self.node.epoch();
+        ReplicaStep::AskAll { epoch, packets }
     }
 
     /// A node is to be told a log, unless it was told one shortly before.
@@ -96,8 +126,10 @@ impl EpochMember {
             } => (refused(client, number, refusal), None),
             EpochStep::Deferred(entry) => (ReplicaStep::Answer(EpochAnswer::Deferred(entry)), None),
             EpochStep::Ask { to, packet } => (self.ask(to, packet), None),
+            EpochStep::AskAll { packets } => (self.ask_all(packets), None),
             EpochStep::Tell { to, epoch, base } => (self.tell(to, epoch, base), None),
             EpochStep::Began { log, packets } => (ReplicaStep::Began { epoch, packets }, Some(log)),
+            EpochStep::Replaced => (ReplicaStep::Replaced, None),
         }
     }
 

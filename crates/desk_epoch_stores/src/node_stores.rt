@@ -9,6 +9,7 @@ ghost use Rattle.desk_epoch_node.specs.Does.{BeginsAfter, is_due};
 ghost use Rattle.desk_epoch_node.specs.EpochValue.{committed_cut};
 ghost use Rattle.desk_epoch_node.specs.PastRows.{StandFor};
 ghost use Rattle.desk_epoch_stores.specs.EpochEnds.{reported_saved};
+ghost use Rattle.desk_epoch_stores.specs.Starting.{MayHoldNoMore};
 
 use crate::epoch_stores::EpochStores;
 use desk_epoch_node::{Ended, EpochNode};
@@ -71,6 +72,21 @@ impl<T: EpochStores> NodeStores<T> {
             self.next = Some(store);
         }
         Ok(())
+    }
+
+    /// The state that the store of another epoch saved last. None where the store cannot be opened, or memory is
+    /// refused.
+    pub fn state_of(&mut self, epoch: u64) -> Option<Saved>
+        ensures held { IfSome result (λ saved. T.may_hold self.old.stores epoch saved) }
+        ensures same { MayHoldNoMore T.may_hold self.old.stores self.new.stores }
+        ensures open { (self.new.current ≡ self.old.current) × (self.new.next ≡ self.old.next) }
+    {
+        let Ok(store) = self.stores.open(epoch) else {
+            return None;
+        };
+        let saved = store.copy_last().ok();
+        drop(store);
+        saved
     }
 
     /// Saves the state of the node's epoch, as `StateStore::save_state` does.

@@ -4,13 +4,14 @@ ghost use Rattle.std.specs.Prelude.{◌≡◌, ◌≤◌, ◌<◌, ◌+◌, ◌+
 ghost use Rattle.desk_types.specs.Group.{IsGroup};
 ghost use Rattle.desk_types.specs.declared.command.Entry.{Entry as AnEntry};
 ghost use Rattle.desk_types.specs.declared.limits.TheConstants.{LOG_ENTRIES};
-ghost use Rattle.desk_log.specs.SavedValue.{SavedValue};
+ghost use Rattle.desk_log.specs.SavedValue.{SavedValue, committed_entries};
 ghost use Rattle.desk_node.specs.NodeValue.{node_from};
+ghost use Rattle.desk_epoch_node.specs.Ends.{IsCut};
 ghost use Rattle.desk_epoch_node.specs.PastRows.{StandFor};
 ghost use Rattle.desk_epoch_stores.specs.Starting.{HasPlaces, MayHoldLogs, is_finished, saved_cut};
 
 use crate::epoch_stores::EpochStores;
-use desk_epoch_node::{EpochNode, PastLogs};
+use desk_epoch_node::{Cut, EpochNode, PastLogs, cut_at_commit, first_cut};
 use desk_log::{Saved, StateStore};
 use desk_node::Node;
 use desk_types::limits::LAST_PLACE;
@@ -18,16 +19,18 @@ use desk_types::{Entry, Owner, Refusal};
 use std::alloc::Global;
 
 /// An epoch whose store is open, with the state that was saved last there, and what is held of the logs of the epochs
-/// before it. An epoch ends after so many entries, `most`.
+/// before it. An epoch ends after so many entries, `most`, and after one that names a replacement.
 pub struct OpenedEpoch<T: EpochStores> {
     epoch: u64,
     past: PastLogs,
     most: u64,
     store: T::Store,
     saved: Saved,
+    cut: Cut,
     pub ghost places: { HasPlaces epoch past.length most },
     pub ghost running: { T.Store.stopped store ≡ false },
     pub ghost last: { T.Store.last store ≡ saved },
+    pub ghost cut_is: { IsCut most (committed_entries saved) cut },
 }
 
 // Written out, so that callers need not prove each part's drop.
@@ -39,6 +42,7 @@ impl<T: EpochStores> Drop for OpenedEpoch<T> {
             most: _,
             store: _,
             saved: _,
+            cut: _,
         } = self;
     }
 }
@@ -58,13 +62,17 @@ impl<T: EpochStores> OpenedEpoch<T> {
     {
         let store = stores.open(epoch)?;
         match store.copy_last() {
-            Ok(saved) => Ok(OpenedEpoch {
-                epoch,
-                past,
-                most,
-                store,
-                saved,
-            }),
+            Ok(saved) => {
+                let cut = cut_at_commit(first_cut(), 0, &saved, most);
+                Ok(OpenedEpoch {
+                    epoch,
+                    past,
+                    most,
+                    store,
+                    saved,
+                    cut,
+                })
+            }
             Err(_) => {
                 drop(store);
                 Err(Refusal::WantOfMemory)
@@ -96,17 +104,15 @@ impl<T: EpochStores> OpenedEpoch<T> {
         ensures { result.now ≡ saved_cut self.now.most self.now.saved }
     {
         // What is committed stands in the log.
-        prove!(self.saved.commit() <= self.saved.log().len());
-        let (commit, most) = (self.saved.commit(), self.most);
-        let count = if commit < most { commit } else { most };
-        &self.saved.log().entries()[..count as usize]
+        prove!(self.cut.count <= self.saved.log().len());
+        &self.saved.log().entries()[..self.cut.count as usize]
     }
 
     /// Whether the epoch has ended, and there are places for one more.
     pub fn is_finished(&self) -> bool
         ensures { result ≡ is_finished self.now.most self.now.past.length self.now.saved }
     {
-        self.saved.commit() >= self.most && self.past.len() + self.most + self.most <= LAST_PLACE
+        self.cut.ended && self.past.len() + self.most + self.most <= LAST_PLACE
     }
 
     /// Opens the epoch after one that is over. It takes memory for each client of past logs.
@@ -149,14 +155,15 @@ impl<T: EpochStores> OpenedEpoch<T> {
         unreachable!()
     }
 
-    /// The node in the epoch, as it was saved last, which has heard nothing since; and the store.
-    pub fn into_node(self, alloc: Global, owner: Owner) -> (EpochNode, T::Store)
+    /// The node in the epoch with its token, as it was saved last, which has heard nothing since; and the store.
+    pub fn into_node(self, alloc: Global, owner: Owner, token: u64) -> (EpochNode, T::Store)
         requires group { IsGroup owner.n }
         requires id { owner.id < owner.n }
         ensures node { result.0 ≡ record {
           epoch = self.epoch;
           past = self.past;
           most = self.most;
+          token = token;
           node = node_from owner self.saved;
         } }
         ensures store { result.1 ≡ self.store }
@@ -167,9 +174,10 @@ impl<T: EpochStores> OpenedEpoch<T> {
             most,
             store,
             saved,
+            cut: _,
         } = self;
         let Owner { id, n, domain } = owner;
         let node = Node::from_saved(alloc, id, n, domain, saved);
-        (EpochNode::new(epoch, past, most, node), store)
+        (EpochNode::new(epoch, past, most, token, node), store)
     }
 }

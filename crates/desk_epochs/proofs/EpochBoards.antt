@@ -39,7 +39,7 @@ epoch_identifiers_stay domain ending sizes first more early late i j group l m k
           (ap (λ log. names (board_of domain log)) (sym (take-append-drop k other)) ∙ stays.1),
     )
 
-one_reply : (domain : List ℕ) (log : List Entry) (client number p q : ℕ) (r t : Reply) → IsRising log →
+pub one_reply : (domain : List ℕ) (log : List Entry) (client number p q : ℕ) (r t : Reply) → IsRising log →
     IsReplyAt domain log client number p r → IsReplyAt domain log client number q t → (p ≡ q) × (r ≡ t)
 one_reply domain log client number p q r t rising a b =
     let place : p ≡ q =

@@ -27,7 +27,7 @@ over_rest_more : (t b c : Bool) → (b ≡ true → c ≡ true) → (t || b) ≡
 over_rest_more true b c f o = refl
 over_rest_more false b c f o = f o
 
-over_more : (ends : Entry → Bool) (k : ℕ) (xs ys : List Entry) → IsLogPrefix xs ys → has_ended ends k xs ≡ true →
+pub over_more : (ends : Entry → Bool) (k : ℕ) (xs ys : List Entry) → IsLogPrefix xs ys → has_ended ends k xs ≡ true →
     has_ended ends k ys ≡ true
 over_more ends zero xs ys f o = refl
 over_more ends (suc k) [] ys f o = absurd (false≢true o)
@@ -59,11 +59,11 @@ whole_one domain ending n events p q group v w =
     v.log_is ∙ (cut_same ending.ends ending.most _ _ agree v.over w.over ∙ sym w.log_is)
 
 -- the events of each epoch go on
-record RunsGrow (old new : ℕ → List WorldEvent) : Type 0 where
-  more : ℕ → List WorldEvent
-  is : (epoch : ℕ) → new epoch ≡ old epoch ++ more epoch
+pub record RunsGrow (old new : ℕ → List WorldEvent) : Type 0 where
+  pub more : ℕ → List WorldEvent
+  pub is : (epoch : ℕ) → new epoch ≡ old epoch ++ more epoch
 
-past_more : (domain : List ℕ) (ending : Ending) (sizes : ℕ → ℕ) (old new : ℕ → List WorldEvent) →
+pub past_more : (domain : List ℕ) (ending : Ending) (sizes : ℕ → ℕ) (old new : ℕ → List WorldEvent) →
     ((epoch : ℕ) → IsGroup (sizes epoch)) → RunsGrow old new → (epoch : ℕ) (past : List (List Entry)) →
     ArePast domain ending sizes old epoch past → ArePast domain ending sizes new epoch past
 past_more domain ending sizes old new group g epoch [] a = tt
@@ -150,7 +150,7 @@ asked_more before events event new one e f place r there same =
     (subst (λ (w : WorldEvent). IsNewFor before w) is one) f place there same)
     (Contains-append_cases events (event ∷ []) (Request r.node e) r.asked)
 
-new_more : (domain : List ℕ) (ending : Ending) (sizes : ℕ → ℕ) (old new : ℕ → List WorldEvent) →
+pub new_more : (domain : List ℕ) (ending : Ending) (sizes : ℕ → ℕ) (old new : ℕ → List WorldEvent) →
     ((epoch : ℕ) → IsGroup (sizes epoch)) → RunsGrow old new → (epoch : ℕ) → new epoch ≡ old epoch →
     NewAfter domain ending sizes old epoch → NewAfter domain ending sizes new epoch
 new_more domain ending sizes old new group g epoch same b = record {
@@ -160,7 +160,7 @@ new_more domain ending sizes old new group g epoch same b = record {
   new = subst (λ (es : List WorldEvent). AreNew (joined_logs b.past) es) (sym same) b.new;
 }
 
-happens_grow : (old new : Epochs) → HappensIn old new → RunsGrow old.runs new.runs
+pub happens_grow : (old new : Epochs) → HappensIn old new → RunsGrow old.runs new.runs
 happens_grow old new h = record {
   more = λ epoch. if eqb epoch (epoch_of old h.node) then h.event ∷ [] else [];
   is = λ epoch. by_epoch epoch (cases_eq epoch (epoch_of old h.node));
@@ -175,13 +175,14 @@ happens_grow old new h = record {
         let test : eqb epoch (epoch_of old h.node) ≡ false = ne_eqb epoch (epoch_of old h.node) ne in
         rw test (h.there epoch ne ∙ sym (append-nil (old.runs epoch)))
 
-goes_grow : (node : ℕ) (log : List Entry) (old new : Epochs) → GoesOver node log old new → RunsGrow old.runs new.runs
+pub goes_grow : (node : ℕ) (log : List Entry) (old new : Epochs) → GoesOver node log old new →
+    RunsGrow old.runs new.runs
 goes_grow node log old new g = record {
   more = λ epoch. [];
   is = λ epoch. g.runs_are epoch ∙ sym (append-nil (old.runs epoch));
 }
 
-happens_holds : (domain : List ℕ) (ending : Ending) (sizes : ℕ → ℕ) (old new : Epochs) →
+pub happens_holds : (domain : List ℕ) (ending : Ending) (sizes : ℕ → ℕ) (old new : Epochs) →
     ((epoch : ℕ) → IsGroup (sizes epoch)) → Holds domain ending sizes old → HappensIn old new →
     Holds domain ending sizes new
 unfolding NoRequest
@@ -224,7 +225,7 @@ happens_holds domain ending sizes old new group k h = record {
           (asked_more (joined_logs mine) (old.runs here) h.event (before (k.asked here)) h.is_new);
     })
 
-goes_holds : (domain : List ℕ) (ending : Ending) (sizes : ℕ → ℕ) (node : ℕ) (log : List Entry) (old new : Epochs) →
+pub goes_holds : (domain : List ℕ) (ending : Ending) (sizes : ℕ → ℕ) (node : ℕ) (log : List Entry) (old new : Epochs) →
     ((epoch : ℕ) → IsGroup (sizes epoch)) → Holds domain ending sizes old → GoesOver node log old new →
     IsWholeEpoch domain ending (sizes (epoch_of old node)) (old.runs (epoch_of old node)) log →
     Holds domain ending sizes new
@@ -286,10 +287,10 @@ next_grow domain ending sizes old new (inl h) = happens_grow old new h
 next_grow domain ending sizes old new (inr (inl b)) = goes_grow b.node _ old new b.goes
 next_grow domain ending sizes old new (inr (inr t)) = goes_grow t.node t.log old new t.goes
 
-grow_same : (runs : ℕ → List WorldEvent) → RunsGrow runs runs
+pub grow_same : (runs : ℕ → List WorldEvent) → RunsGrow runs runs
 grow_same runs = record { more = λ epoch. []; is = λ epoch. sym (append-nil (runs epoch)) }
 
-grow_on : (a b c : ℕ → List WorldEvent) → RunsGrow a b → RunsGrow b c → RunsGrow a c
+pub grow_on : (a b c : ℕ → List WorldEvent) → RunsGrow a b → RunsGrow b c → RunsGrow a c
 grow_on a b c g h = record {
   more = λ epoch. g.more epoch ++ h.more epoch;
   is = λ epoch. h.is epoch
@@ -312,7 +313,7 @@ leads_grow domain ending sizes (suc count) old new l =
 
 -- the same events, epoch by epoch
 
-history_same : (domain : List ℕ) (ending : Ending) (sizes : ℕ → ℕ) (f g : ℕ → List WorldEvent) →
+pub history_same : (domain : List ℕ) (ending : Ending) (sizes : ℕ → ℕ) (f g : ℕ → List WorldEvent) →
     ((epoch : ℕ) → f epoch ≡ g epoch) → (epoch : ℕ) (past : List (List Entry)) (i : ℕ) →
     history domain ending sizes f epoch past i ≡ history domain ending sizes g epoch past i
 history_same domain ending sizes f g same epoch [] i =
@@ -320,7 +321,7 @@ history_same domain ending sizes f g same epoch [] i =
 history_same domain ending sizes f g same epoch (p ∷ ps) i =
     ap (λ es. p ++ es) (history_same domain ending sizes f g same (suc epoch) ps i)
 
-past_same : (domain : List ℕ) (ending : Ending) (sizes : ℕ → ℕ) (f g : ℕ → List WorldEvent) →
+pub past_same : (domain : List ℕ) (ending : Ending) (sizes : ℕ → ℕ) (f g : ℕ → List WorldEvent) →
     ((epoch : ℕ) → f epoch ≡ g epoch) → (epoch : ℕ) (past : List (List Entry)) →
     ArePast domain ending sizes f epoch past → ArePast domain ending sizes g epoch past
 past_same domain ending sizes f g same epoch [] a = tt
@@ -366,7 +367,7 @@ asked_new domain ending sizes d group k done a =
     (past_one domain ending sizes d.runs group 0 b.past done b.whole a b.count) b.new)
     (k.asked (length done))
 
-all_new : (domain : List ℕ) (ending : Ending) (sizes : ℕ → ℕ) (d : Epochs) → ((epoch : ℕ) → IsGroup (sizes epoch)) →
+pub all_new : (domain : List ℕ) (ending : Ending) (sizes : ℕ → ℕ) (d : Epochs) → ((epoch : ℕ) → IsGroup (sizes epoch)) →
     Holds domain ending sizes d → (done rest : List (List Entry)) →
     ArePast domain ending sizes d.runs 0 (done ++ rest) → AskNew d.runs (length done) (joined_logs done) rest
 all_new domain ending sizes d group k done [] a =

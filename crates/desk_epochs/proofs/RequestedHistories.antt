@@ -30,7 +30,7 @@ cut_is_requested domain ending n events i k e group there =
     (entry_at-prefix (epoch_log ending.ends ending.most all) all (suc k) e
     (cut_is_prefix ending.ends ending.most all) there)
 
-requested_from : (domain : List ℕ) (ending : Ending) (sizes : ℕ → ℕ) (events : ℕ → List WorldEvent) (i : ℕ)
+pub requested_from : (domain : List ℕ) (ending : Ending) (sizes : ℕ → ℕ) (events : ℕ → List WorldEvent) (i : ℕ)
     (e : Entry) → ((epoch : ℕ) → IsGroup (sizes epoch)) → (epoch : ℕ) (past : List (List Entry)) (k : ℕ) →
     ArePast domain ending sizes events epoch past →
     slice_get (history domain ending sizes events epoch past i) k ≡ Some e →

@@ -2,5 +2,6 @@
 
 mod epochs;
 mod headers;
+mod keeping;
 mod replicas;
 mod stores;

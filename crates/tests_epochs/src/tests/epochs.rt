@@ -29,13 +29,13 @@ pub fn entry(alloc: Global, client: u64, number: u64) -> Option<Entry> {
     }
 }
 
-/// A node of three in epoch 0, which ends after two entries.
-pub fn first_node(alloc: Global, id: u8) -> Option<EpochNode>
+/// A node of three with a token in epoch 0, which ends after two entries.
+pub fn first_node(alloc: Global, id: u8, token: u64) -> Option<EpochNode>
     requires { id < 3 }
 {
     let domain = Domain::new(alloc, "desk.example").ok()?;
     let node = Node::from_saved(alloc, id, 3, domain, Saved::initial(alloc));
-    Some(EpochNode::new(0, PastLogs::new(alloc), 2, node))
+    Some(EpochNode::new(0, PastLogs::new(alloc), 2, token, node))
 }
 
 /// What comes to a node, with numbers of its own.
@@ -49,6 +49,8 @@ pub enum Comes {
     Ask(u64, u64),
     /// Node 2 tells the requests 1 to a number of client 7 after a place of an epoch.
     Tell(u64, u64, u64),
+    /// It is time to send again what is not acknowledged.
+    Resend,
     /// It is time to go over to the next epoch.
     Begin,
 }
@@ -104,6 +106,7 @@ pub fn event(alloc: Global, comes: Comes) -> Option<EpochEvent> {
                 },
             )
         }
+        Comes::Resend => Some(EpochEvent::Resend),
         Comes::Begin => None,
     }
 }
@@ -120,8 +123,10 @@ fn word(step: &EpochStep) -> (&'static str, u64) {
         },
         EpochStep::Deferred(_) => ("kept", 0),
         EpochStep::Ask { to, .. } => ("ask", *to as u64),
+        EpochStep::AskAll { packets } => ("ask all", packets.len() as u64),
         EpochStep::Tell { base, .. } => ("tell", *base),
         EpochStep::Began { log, .. } => ("began", log.len()),
+        EpochStep::Replaced => ("replaced", 0),
     }
 }
 
@@ -190,14 +195,34 @@ const ASKED: &[Row] = &[
     (Comes::Ask(0, 1), ("tell", 1)),
 ];
 
+/// No entry names the token of the node.
+const AWAITS: &[Row] = &[
+    (Comes::Request(7, 1), ("refused", 0)),
+    (Comes::Resend, ("ask all", 2)),
+    (Comes::PrepareOk(0, 1), ("nothing", 0)),
+    (Comes::PrepareOk(1, 1), ("ask", 1)),
+    (Comes::Tell(0, 0, 2), ("began", 2)),
+    (Comes::Begin, ("goes on", 1)),
+    // Who acts would tell it.
+    (Comes::Ask(0, 1), ("nothing", 0)),
+    (Comes::Request(8, 1), ("refused", 0)),
+    (Comes::Resend, ("ask all", 2)),
+];
+
 #[test]
 fn who_leads_goes_over(rt: HostRuntime) {
     let alloc = rt.alloc();
-    assert!(rt; first_untrue(alloc, first_node(alloc, 0), LEADS) == None);
+    assert!(rt; first_untrue(alloc, first_node(alloc, 0, 0), LEADS) == None);
 }
 
 #[test]
 fn who_is_told_goes_over(rt: HostRuntime) {
     let alloc = rt.alloc();
-    assert!(rt; first_untrue(alloc, first_node(alloc, 0), ASKED) == None);
+    assert!(rt; first_untrue(alloc, first_node(alloc, 0, 0), ASKED) == None);
+}
+
+#[test]
+fn who_awaits_its_number_asks_and_is_told(rt: HostRuntime) {
+    let alloc = rt.alloc();
+    assert!(rt; first_untrue(alloc, first_node(alloc, 0, 5), AWAITS) == None);
 }

@@ -90,8 +90,8 @@ enum Asked {
     Publish,
 }
 
-/// Node 0 of three at its start, where the store of an epoch fails.
-fn start(alloc: Global, faulty: u64) -> Option<Running> {
+/// Node 0 of three with a token at its start, where the store of an epoch fails.
+fn start(alloc: Global, faulty: u64, token: u64) -> Option<Running> {
     let mut stores = FaultyStores { alloc, faulty };
     let Ok(opened) = OpenedEpoch::current(alloc, &mut stores, 2) else {
         return None;
@@ -101,7 +101,7 @@ fn start(alloc: Global, faulty: u64) -> Option<Running> {
         n: 3,
         domain: Domain::new(alloc, "desk.example").ok()?,
     };
-    let replica = EpochReplica::start(alloc, stores, opened, owner).ok()?;
+    let replica = EpochReplica::start(alloc, stores, opened, owner, token).ok()?;
     Some(Running { replica })
 }
 
@@ -109,6 +109,7 @@ fn item(alloc: Global, comes: Comes) -> Option<EpochItem> {
     match event(alloc, comes)? {
         EpochEvent::Request(entry) => Some(EpochItem::Request(entry)),
         EpochEvent::Packet(packet) => Some(EpochItem::Packet(packet)),
+        EpochEvent::Resend => Some(EpochItem::Tick),
         other => {
             drop(other);
             None
@@ -127,8 +128,10 @@ fn word(step: &ReplicaStep) -> (&'static str, u64) {
             EpochAnswer::Deferred(_) => ("deferred", 0),
         },
         ReplicaStep::Ask { to, .. } => ("ask", *to as u64),
+        ReplicaStep::AskAll { packets, .. } => ("ask all", packets.len() as u64),
         ReplicaStep::Tell { epoch, .. } => ("tell", *epoch),
         ReplicaStep::Began { epoch, .. } => ("began", *epoch),
+        ReplicaStep::Replaced => ("replaced", 0),
     }
 }
 
@@ -208,8 +211,8 @@ fn done(alloc: Global, running: Running, asked: Asked) -> Result<(Running, Told)
 type Row = (Asked, Told);
 
 /// The first row, counted from 1, that does not come true; 0 where there is no replica. The last row may be a fault.
-fn first_untrue(alloc: Global, faulty: u64, rows: &[Row]) -> Option<usize> {
-    let Some(mut running) = start(alloc, faulty) else {
+fn first_untrue(alloc: Global, faulty: u64, token: u64, rows: &[Row]) -> Option<usize> {
+    let Some(mut running) = start(alloc, faulty, token) else {
         return Some(0);
     };
     for (index, row) in rows.iter().enumerate() {
@@ -290,21 +293,36 @@ const BEGINNING_FAILS: &[Row] = &[
     (Asked::Begin, ("not begun", 2)),
 ];
 
-/// The epoch whose store fails, and what is done.
-const RUNS: &[(u64, &[Row])] = &[
-    (NONE, GOES_OVER),
-    (NONE, IS_TOLD),
-    (NONE, ASKS_AND_TELLS),
-    (0, SAVE_FAILS),
-    (0, TOLD_SAVE_FAILS),
-    (1, TOLD_SAVE_FAILS),
-    (1, BEGINNING_FAILS),
+/// No entry names the token of the node.
+const AWAITS: &[Row] = &[
+    (Asked::Meet(Comes::Request(7, 1)), ("refused", 0)),
+    (Asked::Meet(Comes::Resend), ("ask all", 2)),
+    (Asked::Ticks(48), ("ticks", 48)),
+    (Asked::Meet(Comes::Resend), ("nothing", 0)),
+    (Asked::Meet(Comes::Resend), ("ask all", 2)),
+    (Asked::Prepare, ("ready", 0)),
+    (Asked::Meet(Comes::Tell(0, 0, 2)), ("began", 1)),
+    (Asked::Begin, ("goes on", 1)),
+    (Asked::Meet(Comes::Ask(0, 0)), ("nothing", 0)),
+    (Asked::Meet(Comes::Request(7, 3)), ("refused", 0)),
+];
+
+/// The epoch whose store fails, the node's token, and what is done.
+const RUNS: &[(u64, u64, &[Row])] = &[
+    (NONE, 0, GOES_OVER),
+    (NONE, 0, IS_TOLD),
+    (NONE, 0, ASKS_AND_TELLS),
+    (0, 0, SAVE_FAILS),
+    (0, 0, TOLD_SAVE_FAILS),
+    (1, 0, TOLD_SAVE_FAILS),
+    (1, 0, BEGINNING_FAILS),
+    (NONE, 5, AWAITS),
 ];
 
 /// The first run, counted from 1, that does not come true, with its first row that does not.
 fn first_other_run(alloc: Global) -> Option<(usize, usize)> {
     for (index, run) in RUNS.iter().enumerate() {
-        if let Some(row) = first_untrue(alloc, run.0, run.1) {
+        if let Some(row) = first_untrue(alloc, run.0, run.1, run.2) {
             return Some((index + 1, row));
         }
     }

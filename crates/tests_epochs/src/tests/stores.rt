@@ -11,7 +11,7 @@ use std::alloc::Global;
 
 /// What the stores of the first epochs hold. That of a later one holds the state of a node that has done nothing.
 #[derive(Drop)]
-struct MemoryStores {
+pub(super) struct MemoryStores {
     alloc: Global,
     states: Vec<Saved>,
 }
@@ -49,7 +49,7 @@ fn state(alloc: Global, last: u64, commit: u64) -> Option<Saved> {
 }
 
 /// Stores with such states.
-fn stores(alloc: Global, rows: &[(u64, u64)]) -> Option<MemoryStores> {
+pub(super) fn stores(alloc: Global, rows: &[(u64, u64)]) -> Option<MemoryStores> {
     let mut states = Vec::new(alloc);
     for row in rows {
         states.push(state(alloc, row.0, row.1)?).ok()?;
@@ -73,7 +73,7 @@ fn start(alloc: Global, rows: &[(u64, u64)]) -> Option<(u64, u64, u64)> {
         n: 3,
         domain,
     };
-    let (node, store) = opened.into_node(alloc, owner);
+    let (node, store) = opened.into_node(alloc, owner, 0);
     drop(store);
     Some((node.epoch(), node.past().len(), committed))
 }
@@ -166,7 +166,7 @@ const ENDS: &[(Asked, (u64, bool))] = &[
 
 /// The first row, counted from 1, that does not come true; 0 where there is no node.
 fn first_other_end(alloc: Global) -> Option<usize> {
-    let Some(mut node) = first_node(alloc, 0) else {
+    let Some(mut node) = first_node(alloc, 0, 0) else {
         return Some(0);
     };
     let none = MemoryStores {
@@ -190,7 +190,7 @@ fn an_epoch_begins_once_its_store_is_open(rt: HostRuntime) {
 
 /// What the store of an epoch holds whose log was told: how many entries, and how many of them are committed.
 fn held_after_report(alloc: Global) -> Option<(u64, u64)> {
-    let node = first_node(alloc, 0)?;
+    let node = first_node(alloc, 0, 0)?;
     let mut stores = NodeStores::new(stores(alloc, &[])?, MemoryStore::new(alloc));
     let Ok(()) = stores.prepare(&node) else {
         return None;

@@ -1,7 +1,8 @@
 use Rattle.std.proofs.Common.{◌≡◌, true, rules}
 use Rattle.std.proofs.lemmas.Bool.{and_from}
 use Rattle.desk_log.specs.SavedValue.{committed_entries}
-use Rattle.desk_epoch_node.specs.EpochValue.{committed_cut, has_next, reaches_end}
+use Rattle.desk_epoch_node.specs.Ends.{reaches_end}
+use Rattle.desk_epoch_node.specs.EpochValue.{committed_cut, has_next}
 use Rattle.desk_epoch_node.proofs.Beginnings.{begins_next}
 use Rattle.desk_epoch_node.proofs.epoch_node.EpochNode.begin_next.Goals as goal
 

@@ -1,0 +1,2 @@
+pub mod WholePasts
+pub mod Laws
