@@ -77,10 +77,17 @@ class Host:
         run('ip', '-n', self.space, 'address', 'add', f'{self.addresses[6]}/64', 'dev', 'eth0', 'nodad')
         for card in ('lo', 'eth0'):
             run('ip', '-n', self.space, 'link', 'set', card, 'up')
+        self.ask_oftener()
 
     def before(self):
         """The words before a program that runs here."""
         return ['ip', 'netns', 'exec', self.space]
+
+    def ask_oftener(self):
+        """The host asks for a neighbour's address each 100 ms, as docs/RUNNING.md says, where that may be set."""
+        for family in ('ipv4', 'ipv6'):
+            setting = f'/proc/sys/net/{family}/neigh/eth0/retrans_time_ms'
+            subprocess.run([*self.before(), 'sh', '-c', f'echo 100 > {setting}'], stderr=subprocess.DEVNULL)
 
     def unplug(self):
         """The host sees that its cable has no other end."""
