@@ -14,8 +14,11 @@ use std::time::Duration;
 /// The address of this host at which it is reached by itself alone.
 pub const LOOPBACK: &str = "127.0.0.1";
 
-/// For so many milliseconds an address may take no connection that is made to it.
-pub const CONNECT_MILLISECONDS: u64 = 500;
+/// For so many milliseconds an address may take no connection that a node makes to it.
+pub const NODE_CONNECT_MILLISECONDS: u64 = 500;
+
+/// For so many milliseconds an address may take no connection that a client makes to it.
+pub const CLIENT_CONNECT_MILLISECONDS: u64 = 1000;
 
 /// The host of each node of a group, by address or name. One that has none is on `LOOPBACK`.
 pub struct Hosts {
@@ -115,14 +118,15 @@ impl GroupAddress {
     }
 }
 
-/// A new connection to a port of a host: to the first of its addresses that takes it within
-/// `CONNECT_MILLISECONDS`.
+/// A new connection to a port of a host: to the first of its addresses that takes it within so many milliseconds. Each
+/// address may take as long; Err is why the last one took none.
 pub fn connect_within<R: Net<Stream = TcpStream>>(
     rt: &R,
     host: &str,
     port: u16,
+    milliseconds: u64,
 ) -> io::Result<TcpStream> {
-    let limit = Duration::from_millis(CONNECT_MILLISECONDS);
+    let limit = Duration::from_millis(milliseconds);
     let mut last = io::Error::from(ErrorKind::InvalidInput);
     for address in (host, port).to_socket_addrs(rt)? {
         match TcpStream::connect_timeout(rt, &address, limit) {

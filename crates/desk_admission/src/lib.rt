@@ -9,7 +9,10 @@ mod exchange;
 mod initiator;
 mod streams;
 
-pub use address::{GroupAddress, Hosts, LOOPBACK, connect_within};
+pub use address::{
+    CLIENT_CONNECT_MILLISECONDS, GroupAddress, Hosts, LOOPBACK, NODE_CONNECT_MILLISECONDS,
+    connect_within,
+};
 pub use admission::{AdmittedEnd, accept};
 pub use endpoint::{CLIENT, Endpoint, HELLO_BYTES, NONCE_BYTES, Role};
 pub use exchange::{MESSAGE_READS, NotAdmitted, RecordKeys};

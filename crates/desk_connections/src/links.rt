@@ -7,7 +7,9 @@ ghost use Rattle.desk_connections.specs.declared.links.LinkState.TheVariants as 
 use crate::limits::{
     IDLE_LINK_SECONDS, LINK_SECONDS, PROOF_SECONDS, REST_MILLISECONDS, WRITE_SECONDS,
 };
-use desk_admission::{KeyedPort, NotAdmitted, connect_within, dial, drawn_nonce};
+use desk_admission::{
+    KeyedPort, NODE_CONNECT_MILLISECONDS, NotAdmitted, connect_within, dial, drawn_nonce,
+};
 use desk_events::{Event, EventLog, Why};
 use desk_peers::{Connect, PeerQueue, send_packets};
 use desk_records::Sealed;
@@ -144,7 +146,7 @@ pub(crate) struct OpenPeer<R: Drop> {
 
 /// A new connection to a peer, on which each packet goes out at once.
 fn open<R: Net<Stream = TcpStream>>(rt: &R, host: &str, port: u16) -> io::Result<TcpStream> {
-    let stream = connect_within(rt, host, port)?;
+    let stream = connect_within(rt, host, port, NODE_CONNECT_MILLISECONDS)?;
     stream.set_nodelay(true)?;
     Ok(stream)
 }

@@ -1,6 +1,6 @@
 //! The file of a key.
 
-ghost use Rattle.std.specs.Prelude.{◌≡◌, ◌≤◌, length, take, is_some, IfErr, IfOk, IfSome};
+ghost use Rattle.std.specs.Prelude.{◌≡◌, ◌≤◌, ◌⊎◌, length, take, is_some, IfErr, IfOk, IfSome, OnOk};
 ghost use Rattle.std.specs.Io.KnownBytes.{Consumes, IsAtEnd};
 ghost use Rattle.desk_key.specs.KeyText.{IsKeyText};
 ghost use Rattle.desk_output.specs.Telling.{TellsFirst};
@@ -25,46 +25,56 @@ const RIGHTS_OF_OTHERS: u32 = 0o077;
 /// Why a file gives no key.
 #[derive(Clone, Copy)]
 enum NoKey {
-    /// It could not be opened, or not be looked at.
+    /// It could not be opened, looked at, or read to its end.
     Unread,
     /// Others than its owner may read or write it.
     Shared,
-    /// Its text spells no key, is too long, or could not be read to its end.
+    /// Its text spells no key, or is too long.
     Text,
 }
 
-/// Reads to the end, into a room, and tells how many bytes there were. It is none where there were as many as the room
-/// has, or more, and where a read fails.
-fn read_whole<R: Read>(reader: &mut R, room: &mut [u8]) -> Option<usize>
-    ensures within { IfSome result (λ count. count ≤ length room.new) }
-    ensures bytes { IfSome result (λ count.
+/// Reads to the end, into a room, and gives how many bytes there were. It is `Text` where there were as many as the
+/// room has, or more, and `Unread` where a read fails.
+fn read_whole<R: Read>(reader: &mut R, room: &mut [u8]) -> Result<usize, NoKey>
+    ensures within { IfOk result (λ count. count ≤ length room.new) }
+    ensures bytes { IfOk result (λ count.
         Consumes (R.remaining reader.old) (R.remaining reader.new) (take count room.new)) }
-    ensures end { IfSome result (λ _. IsAtEnd (R.remaining reader.new)) }
+    ensures end { OnOk result (IsAtEnd (R.remaining reader.new)) }
     ensures room { length room.new ≡ length room.old }
+    ensures fault { IfErr result (λ why. (why ≡ no_keys.Text) ⊎ (why ≡ no_keys.Unread)) }
 {
     let mut at = 0;
     while at < room.len() {
         match reader.read(&mut room[at..]) {
-            Ok(0) => return Some(at),
+            Ok(0) => return Ok(at),
             Ok(count) => at += count,
-            Err(_) => return None,
+            Err(_) => return Err(NoKey::Unread),
         }
     }
-    None
+    Err(NoKey::Text)
+}
+
+/// The key that a text spells.
+fn key_of(text: &[u8]) -> Result<Key, NoKey>
+    ensures key { IfOk result (λ key. IsKeyText text.now key.bytes) }
+    ensures fault { IfErr result (λ why. why ≡ no_keys.Text) }
+{
+    match Key::from_text(text) {
+        Ok(key) => Ok(key),
+        Err(_) => Err(NoKey::Text),
+    }
 }
 
 /// The key that the whole of a reader spells, which gives no more bytes than a file of a key has.
 fn key_from<R: Read>(reader: &mut R) -> Result<Key, NoKey>
     ensures key { IfOk result (λ key. IfSome (R.remaining reader.old) (λ text. IsKeyText text key.bytes)) }
-    ensures fault { IfErr result (λ why. why ≡ no_keys.Text) }
+    ensures fault { IfErr result (λ why. (why ≡ no_keys.Text) ⊎ (why ≡ no_keys.Unread)) }
 {
     let mut room = [0; KEY_FILE_BYTES + 1];
-    let Some(count) = read_whole(reader, &mut room) else {
-        return Err(NoKey::Text);
-    };
-    match Key::from_text(&room[..count]) {
+    let count = read_whole(reader, &mut room)?;
+    match key_of(&room[..count]) {
         Ok(key) => Ok(key),
-        Err(_) => Err(NoKey::Text),
+        Err(why) => Err(why),
     }
 }
 

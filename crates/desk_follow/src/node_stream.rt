@@ -11,7 +11,8 @@ ghost use Rattle.desk_follow.specs.Tries.{RepliesOver, BreaksOver, GrowsByTry, c
 use crate::nodes::NoReply;
 use crate::try_log::TryLog;
 use desk_admission::{
-    CLIENT, Endpoint, GroupAddress, KeyedPort, connect_within, dial, drawn_nonce,
+    CLIENT, CLIENT_CONNECT_MILLISECONDS, Endpoint, GroupAddress, KeyedPort, connect_within, dial,
+    drawn_nonce,
 };
 use desk_key::Key;
 use desk_lines::{Handler, LineBuffer, ReplyText};
@@ -70,7 +71,7 @@ fn node_address<'a>(address: &'a GroupAddress, node: u8) -> NodeAddress<'a>
 /// A new connection to a port, on which each line goes out at once.
 fn connected<R: Net<Stream = TcpStream>>(rt: &R, host: &str, port: u16) -> io::Result<TcpStream> {
     let silent = Duration::from_secs(SILENT_SECONDS);
-    let stream = connect_within(rt, host, port)?;
+    let stream = connect_within(rt, host, port, CLIENT_CONNECT_MILLISECONDS)?;
     stream.set_read_timeout(Some(silent))?;
     stream.set_write_timeout(Some(silent))?;
     stream.set_nodelay(true)?;

@@ -10,7 +10,8 @@ ghost use Rattle.desk_sockets.specs.Followed.{IsAnswered};
 
 use crate::faults::{followed_status, no_node_status, no_proof_status, sent_status};
 use desk_admission::{
-    CLIENT, Endpoint, GroupAddress, Hosts, KeyedPort, LOOPBACK, connect_within, dial, drawn_nonce,
+    CLIENT, CLIENT_CONNECT_MILLISECONDS, Endpoint, GroupAddress, Hosts, KeyedPort, LOOPBACK,
+    connect_within, dial, drawn_nonce,
 };
 use desk_follow::{Follower, GroupNodes, Nodes, follow_lines};
 use desk_key::Key;
@@ -117,7 +118,7 @@ fn proved_status(rt: &HostRuntime, host: &str, port: u16, stream: &TcpStream, ke
 fn keyed_status(rt: &HostRuntime, host: &str, port: u16, key: Key) -> u8
     ensures status { result ≤ FAILED }
 {
-    match connect_within(rt, host, port) {
+    match connect_within(rt, host, port, CLIENT_CONNECT_MILLISECONDS) {
         Ok(stream) => proved_status(rt, host, port, &stream, key),
         Err(_) => no_node_status(&mut rt.stderr(), port),
     }
