@@ -15,9 +15,13 @@ abbrev pub place_of_reply : Reply → ℕ
 place_of_reply (replies.Done place word incident) = place
 place_of_reply (replies.Refused place refusal) = place
 
+-- the greatest number of 64 bits
+abbrev pub greatest_u64 : ℕ
+greatest_u64 = 2 ^ 64 - 1
+
 -- A place of a log, after so many entries of the logs before it. It stays at its greatest value.
 abbrev pub place_after : ℕ → ℕ → ℕ
-place_after base place = min (base + place) (2 ^ 64 - 1)
+place_after base place = min (base + place) greatest_u64
 
 -- What an outcome tells the session of its request: of a reply the place alone, after so many entries of past logs. A
 -- document that was refused and a board that was shown tell none.

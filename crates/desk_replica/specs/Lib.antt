@@ -1,3 +1,4 @@
 pub mod Answers
 pub mod EpochPackets
 pub mod Saving
+pub mod Owners

@@ -1,14 +1,16 @@
 -- What a replica has committed, as it goes on and is published.
-use Rattle.std.proofs.Common.{◌≡◌, ◌≢◌, ◌≤◌, ◌+◌, ◌++◌, ◌∙◌, ℕ, zero, suc, List, [], ◌∷◌, length, take, refl, sym, ap}
-use Rattle.std.proofs.Common.{subst, append_assoc, append-nil, arith, length-append, inl, inr, drop}
+use Rattle.std.proofs.Common.{◌≡◌, ◌≢◌, ◌≤◌, ◌++◌, ◌∙◌, ℕ, zero, suc, List, [], ◌∷◌, length, take, refl, sym, ap}
+use Rattle.std.proofs.Common.{subst, append_assoc, append-nil, arith, length-append, ◌⊎◌, inl, inr}
+use Rattle.std.proofs.Common.{drop, Bool, true, false}
 use mathlib.Core.List.{IsPrefix}
 use Rattle.desk_types.specs.declared.command.Entry.{Entry}
+use Rattle.desk_types.specs.declared.epoch_packet.EpochPacket.{EpochPacket}
 use Rattle.desk_published.specs.Writer.{EqualsPrefix, followed_by}
 use Rattle.desk_published.proofs.PrefixEquations.{front_goes_on, is_front, is_prefix, length_followed, prefix_trans}
-use Rattle.desk_replica.specs.Saving.{Saving, LogsGoOn, ForgetsReported, MayForget, StaysSaved}
-use Rattle.desk_threads.specs.Noted.{IsNoted}
+use Rattle.desk_replica.specs.Saving.{Saving, LogsGoOn, ForgetsReported, BeginsEpoch, HasSameLogs}
+use Rattle.desk_replica.specs.Saving.{MayForget, MayBegin, MayPrepare, Advances, StaysSaved}
 use Rattle.desk_replica.specs.Saving.{after_base, entries_or, to_publish}
-use Rattle.desk_threads.specs.Noted.{replica_history}
+use Rattle.desk_threads.specs.Noted.{IsNoted, replica_history}
 
 pub goes_then : {R : Type 0} (s : Saving R) (old mid new : R) → LogsGoOn s old mid →
     LogsGoOn s mid new → LogsGoOn s old new
@@ -221,33 +223,152 @@ reported_within s r b list noted now shown at is history within =
     (subst (λ (w : List Entry). IsPrefix w (replica_history s r noted)) (sym given)
     (s.cut r, append_assoc (take (s.base r) noted) (s.reported r) (s.cut r))))
 
--- a log that was reported and published is one of the past
-abbrev pub ForgottenOn : {R : Type 0} → Saving R → Type 0
-ForgottenOn {R} s = (old new : R) → s.forgets old new → ForgetsReported s old new
+-- what is told of all that a keeper makes of a replica that is saved
+pub record AdvanceLaws {R : Type 0} (s : Saving R) : Type 0 where
+  pub forgotten : (old new : R) → s.forgets old new → ForgetsReported s old new
+  pub begun : (old new : R) (packets : List (ℕ × EpochPacket)) → s.begins old packets new →
+      BeginsEpoch s old new × StaysSaved s old new
+  pub prepared : (old new : R) → s.prepares old new →
+      HasSameLogs s old new × (s.is_saved old → s.is_saved new) × s.keeps old new
 
 -- After it forgot a log that was reported it is the same member,
-pub forget_owner : {R : Type 0} (s : Saving R) → ForgottenOn s → (old new : R) → MayForget s old new →
+pub forget_owner : {R : Type 0} (s : Saving R) → AdvanceLaws s → (old new : R) → MayForget s old new →
     s.owner new ≡ s.owner old
-forget_owner s forgotten old new (inl same) = ap s.owner same
-forget_owner s forgotten old new (inr forgets) = (forgotten old new forgets).owner
+forget_owner s laws old new (inl same) = ap s.owner same
+forget_owner s laws old new (inr forgets) = (laws.forgotten old new forgets).owner
 
 -- its state is the one that was saved last,
-pub forget_saved : {R : Type 0} (s : Saving R) → ForgottenOn s → (old new : R) → MayForget s old new →
+pub forget_saved : {R : Type 0} (s : Saving R) → AdvanceLaws s → (old new : R) → MayForget s old new →
     s.is_saved old → s.is_saved new
-forget_saved s forgotten old new (inl same) is = subst s.is_saved (sym same) is
-forget_saved s forgotten old new (inr forgets) is = (forgotten old new forgets).saved is
+forget_saved s laws old new (inl same) is = subst s.is_saved (sym same) is
+forget_saved s laws old new (inr forgets) is = (laws.forgotten old new forgets).saved is
 
 -- and what its store is to keep stood.
-pub forget_keeps : {R : Type 0} (s : Saving R) → ((a : R) → s.keeps a a) → ForgottenOn s → (old new : R) →
+pub forget_keeps : {R : Type 0} (s : Saving R) → ((a : R) → s.keeps a a) → AdvanceLaws s → (old new : R) →
     MayForget s old new → s.keeps old new
-forget_keeps s still forgotten old new (inl same) = subst (s.keeps old) (sym same) (still old)
-forget_keeps s still forgotten old new (inr forgets) = (forgotten old new forgets).keeps
+forget_keeps s still laws old new (inl same) = subst (s.keeps old) (sym same) (still old)
+forget_keeps s still laws old new (inr forgets) = (laws.forgotten old new forgets).keeps
 
 -- Both stand after a time when they stood over the one before.
 pub forget_stays : {R : Type 0} (s : Saving R) → ((a b c : R) → s.keeps a b → s.keeps b c → s.keeps a c) →
-    ((a : R) → s.keeps a a) → ForgottenOn s → (old mid new : R) → MayForget s mid new → StaysSaved s old mid →
+    ((a : R) → s.keeps a a) → AdvanceLaws s → (old mid new : R) → MayForget s mid new → StaysSaved s old mid →
     StaysSaved s old new
-forget_stays s further still forgotten old mid new forgets stays = (
-  forget_saved s forgotten mid new forgets stays.0,
-  further old mid new stays.1 (forget_keeps s still forgotten mid new forgets),
+forget_stays s further still laws old mid new forgets stays = (
+  forget_saved s laws mid new forgets stays.0,
+  further old mid new stays.1 (forget_keeps s still laws mid new forgets),
 )
+
+-- And so after it began an epoch,
+pub begin_stays : {R : Type 0} (s : Saving R) → ((a : R) → s.keeps a a) → AdvanceLaws s → (old new : R)
+    (packets : List (ℕ × EpochPacket)) → MayBegin s old packets new → s.is_saved old → StaysSaved s old new
+begin_stays {R} s still laws old new packets (inl (none, same)) is =
+    subst (λ (r : R). StaysSaved s old r) (sym same) (is, still old)
+begin_stays s still laws old new packets (inr begins) is = (laws.begun old new packets begins).1
+
+-- prepared a beginning,
+pub prepare_stays : {R : Type 0} (s : Saving R) → ((a : R) → s.keeps a a) → AdvanceLaws s → (old new : R) →
+    MayPrepare s old new → s.is_saved old → StaysSaved s old new
+prepare_stays {R} s still laws old new (inl same) is =
+    subst (λ (r : R). StaysSaved s old r) (sym same) (is, still old)
+prepare_stays s still laws old new (inr prepares) is =
+    let law = laws.prepared old new prepares in (law.1 is, law.2)
+
+-- or did both.
+pub advance_stays : {R : Type 0} (s : Saving R) → ((a b c : R) → s.keeps a b → s.keeps b c → s.keeps a c) →
+    ((a : R) → s.keeps a a) → AdvanceLaws s → (old mid new : R) (packets : List (ℕ × EpochPacket)) →
+    Advances s mid packets new → StaysSaved s old mid → StaysSaved s old new
+advance_stays s further still laws old mid new packets (begun, begins, prepares) stays =
+    let a = begin_stays s still laws mid begun packets begins stays.0 in
+    let b = prepare_stays s still laws begun new prepares a.0 in
+    (b.0, further old mid new stays.1 (further mid begun new a.1 b.1))
+
+-- Where all that it has committed is noted, and it begins the next epoch, that is noted as its past.
+pub begins_noted : {R : Type 0} (s : Saving R) (old new : R) (noted : List Entry) → BeginsEpoch s old new →
+    IsNoted s old noted → IsPrefix (replica_history s old noted) noted →
+    IsNoted s new noted × (replica_history s old noted ≡ replica_history s new noted)
+begins_noted s old new noted b of p =
+    let front : List Entry = followed_by (s.base old) noted (s.cut old) in
+    let was : replica_history s old noted ≡ front =
+    ap (λ (list : List Entry). take (s.base old) noted ++ (list ++ s.cut old)) b.none in
+    let held : IsPrefix front noted = subst (λ (w : List Entry). IsPrefix w noted) was p in
+    let count : length front ≡ s.base new =
+    length_followed (s.base old) noted (s.cut old) of.past_noted ∙ sym b.base in
+    let same : front ≡ take (s.base new) noted = is_front front noted held ∙ ap (λ n. take n noted) count in
+    let next : [] ≡ to_publish s new =
+    ap (λ (list : List Entry). entries_or list []) (sym b.reported)
+    ∙ ap (λ (list : List Entry). entries_or (s.reported new) list) (sym b.cut) in
+    let none : [] ≡ after_base s new =
+    ap (λ (list : List Entry). list ++ []) (sym b.reported)
+    ∙ ap (λ (list : List Entry). s.reported new ++ list) (sym b.cut) in
+    let start : front ≡ take (s.base new) noted ++ [] = same ∙ sym (append-nil (take (s.base new) noted)) in
+    let history : replica_history s old noted ≡ replica_history s new noted =
+    was ∙ start ∙ ap (λ (list : List Entry). take (s.base new) noted ++ list) none in (
+      record {
+        past_noted = omega (arith, count, ap length held.1, length-append front held.0);
+        past_is = subst (s.stands new) same (b.stands (take (s.base old) noted) of.past_is);
+        next = subst (λ (list : List Entry). EqualsPrefix noted list)
+            (was ∙ start ∙ ap (λ (list : List Entry). take (s.base new) noted ++ list) next) of.begins;
+        begins = subst (λ (list : List Entry). EqualsPrefix noted list) history of.begins;
+      },
+      history,
+    )
+
+-- Where its logs are as they were, they are noted as before.
+pub same_noted : {R : Type 0} (s : Saving R) (old new : R) (noted : List Entry) → HasSameLogs s old new →
+    IsNoted s old noted → IsNoted s new noted × (replica_history s old noted ≡ replica_history s new noted)
+same_noted s old new noted same of =
+    let history : replica_history s old noted ≡ replica_history s new noted =
+    ap (λ n. take n noted ++ (s.reported old ++ s.cut old)) (sym same.base)
+    ∙ ap (λ (list : List Entry). take (s.base new) noted ++ (list ++ s.cut old)) (sym same.reported)
+    ∙ ap (λ (list : List Entry). take (s.base new) noted ++ (s.reported new ++ list)) (sym same.cut) in
+    let next : followed_by (s.base old) noted (to_publish s old) ≡ followed_by (s.base new) noted (to_publish s new) =
+    ap (λ n. take n noted ++ entries_or (s.reported old) (s.cut old)) (sym same.base)
+    ∙ ap (λ (list : List Entry). take (s.base new) noted ++ entries_or list (s.cut old)) (sym same.reported)
+    ∙ ap (λ (list : List Entry). take (s.base new) noted ++ entries_or (s.reported new) list) (sym same.cut) in (
+      record {
+        past_noted = subst (λ n. n ≤ length noted) (sym same.base) of.past_noted;
+        past_is = subst (λ n. s.stands new (take n noted)) (sym same.base)
+            (same.stands (take (s.base old) noted) of.past_is);
+        next = subst (λ (list : List Entry). EqualsPrefix noted list) next of.next;
+        begins = subst (λ (list : List Entry). EqualsPrefix noted list) history of.begins;
+      },
+      history,
+    )
+
+-- where nothing is done its logs are as they were
+still_logs : {R : Type 0} (s : Saving R) (old new : R) → new ≡ old → HasSameLogs s old new
+still_logs s old new same = record {
+  owner = ap s.owner same;
+  base = ap s.base same;
+  reported = ap s.reported same;
+  cut = ap s.cut same;
+  stands = λ past is. subst (λ r. s.stands r past) (sym same) is;
+}
+
+pub begin_logs : {R : Type 0} (s : Saving R) → AdvanceLaws s → (old new : R) (packets : List (ℕ × EpochPacket)) →
+    MayBegin s old packets new → BeginsEpoch s old new ⊎ HasSameLogs s old new
+begin_logs s laws old new packets (inl (none, same)) = inr (still_logs s old new same)
+begin_logs s laws old new packets (inr begins) = inl (laws.begun old new packets begins).0
+
+pub prepare_logs : {R : Type 0} (s : Saving R) → AdvanceLaws s → (old new : R) → MayPrepare s old new →
+    HasSameLogs s old new
+prepare_logs s laws old new (inl same) = still_logs s old new same
+prepare_logs s laws old new (inr prepares) = (laws.prepared old new prepares).0
+
+pub entered_owner : {R : Type 0} (s : Saving R) (old new : R) → BeginsEpoch s old new ⊎ HasSameLogs s old new →
+    s.owner new ≡ s.owner old
+entered_owner s old new (inl b) = b.owner
+entered_owner s old new (inr same) = same.owner
+
+-- whether it began an epoch or not, after all that it had committed is noted
+pub entered_noted : {R : Type 0} (s : Saving R) (old new : R) (noted : List Entry) →
+    BeginsEpoch s old new ⊎ HasSameLogs s old new → IsNoted s old noted →
+    IsPrefix (replica_history s old noted) noted →
+    IsNoted s new noted × (replica_history s old noted ≡ replica_history s new noted)
+entered_noted s old new noted (inl b) of p = begins_noted s old new noted b of p
+entered_noted s old new noted (inr same) of p = same_noted s old new noted same of
+
+-- by the two values of a test
+pub by_test : (b : Bool) (P : Type 0) → (b ≡ true → P) → (b ≡ false → P) → P
+by_test true P f g = f refl
+by_test false P f g = g refl

@@ -1,6 +1,6 @@
 -- Runs of a keeper: of none, of one, and one after another.
 use Rattle.std.proofs.Common.{◌≡◌, ◌++◌, ℕ, List, [], ◌∷◌, refl, sym, ◌∙◌, ap, subst, append_assoc, append-nil}
-use Rattle.std.proofs.Common.{Result, Ok, Err, OnOk, IfOk, OnErr, IfErr, Option, Some, MatchOption}
+use Rattle.std.proofs.Common.{Result, Ok, Err, OnOk, IfOk, OnErr, IfErr, Option, Some, None, MatchOption}
 use Rattle.desk_types.specs.declared.epoch_packet.EpochPacket.{EpochPacket}
 use Rattle.desk_mailbox.specs.declared.item.Item.{Item}
 use Rattle.desk_mailbox.specs.declared.rule.SentItem.{SentItem}
@@ -72,3 +72,6 @@ if_err r e P is h = subst (λ (w : Result _ _). IfErr w P) is h
 
 pub if_some : {A : Type 0} (o : Option A) (x : A) (N : Type 0) (P : A → Type 0) → o ≡ Some x → MatchOption o N P → P x
 if_some o x N P e h = subst (λ w. MatchOption w N P) e h
+
+pub if_none : {A : Type 0} (o : Option A) (N : Type 0) (P : A → Type 0) → o ≡ None → MatchOption o N P → N
+if_none o N P e h = subst (λ w. MatchOption w N P) e h

@@ -12,7 +12,7 @@ use Rattle.desk_threads.specs.Waiting.{SessionValue}
 use Rattle.desk_replica.specs.declared.replica.Replica.{Ghosts as ReplicaGhosts}
 use Rattle.desk_threads.specs.Runs.{items_in, Ran, RanToLast, Stand, stand, TakesTurn, TakesTurns, RanInTurns}
 use Rattle.desk_threads.specs.Runs.{EndsInStop, TookStop, HasRunOut, IsStopped, RanToEnd, IsUnsaved}
-use Rattle.desk_threads.specs.Runs.{TakesLast, RanToTurn}
+use Rattle.desk_threads.specs.Runs.{TakesLast, RanToTurn, AdvancesBetween}
 use Rattle.desk_threads.specs.EndingItems.{OnlyLastEnds}
 use Rattle.desk_threads.specs.Telling.{TellsOfStop}
 use Rattle.desk_threads.proofs.EndingItems.{last_alone}
@@ -20,7 +20,7 @@ use Rattle.desk_threads.specs.SavedItems.{MeetsAndFails}
 use Rattle.desk_replica.specs.Saving.{Saving, StaysSaved}
 use Rattle.desk_threads.proofs.KeeperRuns.{TakesNone, TakesThen, KeepsStill, KeepsFurther, items_then, ran_none}
 use Rattle.desk_threads.proofs.KeeperRuns.{ran_then}
-use Rattle.desk_threads.proofs.Histories.{ForgottenOn, forget_saved, forget_keeps}
+use Rattle.desk_threads.proofs.Histories.{AdvanceLaws, forget_stays, advance_stays}
 use Rattle.desk_threads.proofs.SavedItems.{turn_saves}
 
 -- all that is in turns, one after the other
@@ -36,8 +36,8 @@ takes_then : {O R : Type 0} (g : Ghosts O) (h : ReplicaGhosts R) (s : Saving R) 
     (old mid new : Stand O R) → TakesTurns g h s most xs old mid → TakesTurns g h s most ys mid new →
     TakesTurns g h s most (xs ++ ys) old new
 takes_then g h s most [] ys old mid new e last = subst (λ x. TakesTurns g h s most ys x new) (sym e) last
-takes_then g h s most (x ∷ xs) ys old mid new (next, one, more) last =
-    (next, one, takes_then g h s most xs ys next mid new more last)
+takes_then g h s most (x ∷ xs) ys old mid new (end, next, one, on, more) last =
+    (end, next, one, on, takes_then g h s most xs ys next mid new more last)
 
 pub turns_none : {O R : Type 0} (g : Ghosts O) (h : ReplicaGhosts R) (s : Saving R) (most : ℕ)
     (b : List (SentItem Item))
@@ -86,16 +86,15 @@ turns_to_end g h s most b m a old mid new ended first (end, last, how) = (
   end_then b m a (joined first.0) end new ended first.1 how,
 )
 
--- one item was taken, and others after it, and this was a turn
+-- one item was taken, and others after it, and this was a turn, after which the keeper advanced
 pub turns_one : {O R : Type 0} (g : Ghosts O) (h : ReplicaGhosts R) (s : Saving R) (most : ℕ)
-    (b m a : List (SentItem Item))
-    (x : SentItem Item) (old mid new : Stand O R) → m ≡ b ++ x ∷ [] → mid ≡ old →
-    (more : List (SentItem Item)) × (a ≡ m ++ more) × TakesTurn g h s most (x.item ∷ items_in more) mid new →
-    RanInTurns g h s most b old a new
-turns_one g h s most b m a x old mid new taken same (more, then, one) = (
+    (b m a : List (SentItem Item)) (x : SentItem Item) (old mid end new : Stand O R) → m ≡ b ++ x ∷ [] → mid ≡ old →
+    (more : List (SentItem Item)) × (a ≡ m ++ more) × TakesTurn g h s most (x.item ∷ items_in more) mid end →
+    AdvancesBetween g s end new → RanInTurns g h s most b old a new
+turns_one g h s most b m a x old mid end new taken same (more, then, one) on = (
   (x ∷ more) ∷ [],
   then ∙ ap (λ w. w ++ more) taken ∙ append_assoc b (x ∷ []) more ∙ ap (λ w. b ++ w) (sym (append-nil (x ∷ more))),
-  (new, subst (λ w. TakesTurn g h s most (x.item ∷ items_in more) w new) same one, refl),
+  (end, new, subst (λ w. TakesTurn g h s most (x.item ∷ items_in more) w end) same one, on, refl),
 )
 
 -- a stop is the last of all that was taken where it is the last of a turn
@@ -134,17 +133,17 @@ takes_ran g h s none then most [] b old new e =
     subst (λ w. Ran g h s b old.replica old.out w new.replica new.out) (sym (append-nil b))
     (subst (λ (w : Stand _ _). Ran g h s b old.replica old.out b w.replica w.out) e
     (ran_none g h s none b old.replica old.out))
-takes_ran g h s none then most (x ∷ xs) b old new (mid, one, more) =
+takes_ran g h s none then most (x ∷ xs) b old new (end, mid, one, on, more) =
     let all : List (SentItem Item) = (b ++ x) ++ joined xs in
     subst (λ w. Ran g h s b old.replica old.out w new.replica new.out) (append_assoc b x (joined xs))
     (ran_then g h s then b (b ++ x) all old.replica mid.replica new.replica old.out mid.out new.out (
       x,
-      one.packets,
+      one.packets ++ on.packets,
       one.answers,
       refl,
-      turn_saves h s old.replica one.made mid.replica (items_in x) one.packets one.answers one.some one.does
-          (one.stored, one.saved, one.forgets),
-      one.gave,
+      turn_saves h s old.replica one.made end.replica mid.replica (items_in x) one.packets on.packets one.answers
+          one.some one.does (one.stored, one.saved, one.forgets) on.advances,
+      then old.out end.out mid.out one.packets on.packets one.gave on.gave,
     )
     (takes_ran g h s none then most xs (b ++ x) mid new more))
 
@@ -236,38 +235,39 @@ refused_last h s most b a x old new some taken same silent still reported = reco
 }
 
 -- what the store is to keep stands where something is done
-abbrev KeepsBy : {R : Type 0} → Saving R → (R → R → Type 0) → Type 0
+abbrev pub KeepsBy : {R : Type 0} → Saving R → (R → R → Type 0) → Type 0
 KeepsBy {R} s by = (a b : R) → by a b → s.keeps a b
 
--- and so by a turn
-turn_keeps : {O R : Type 0} (g : Ghosts O) (h : ReplicaGhosts R) (s : Saving R) → KeepsFurther s → KeepsStill s →
-    KeepsBy s h.follows → KeepsBy s s.saves → ForgottenOn s → (most : ℕ) (turn : List Item) (old new : Stand O R) →
-    TakesTurn g h s most turn old new → s.keeps old.replica new.replica
-turn_keeps g h s further still followed saved forgotten most turn old new t =
-    further old.replica t.stored new.replica
-    (further old.replica t.made t.stored (followed old.replica t.made t.follows) (saved t.made t.stored t.saved))
-    (forget_keeps s still forgotten t.stored new.replica t.forgets)
-
--- a turn leaves the replica saved
+-- a turn leaves the replica saved, and what its store is to keep stands
 pub turn_stays : {O R : Type 0} (g : Ghosts O) (h : ReplicaGhosts R) (s : Saving R) →
     ((a b : R) → s.saves a b → s.is_saved b) → KeepsFurther s → KeepsStill s → KeepsBy s h.follows →
-    KeepsBy s s.saves → ForgottenOn s → (most : ℕ) (turn : List Item) (old new : Stand O R) →
+    KeepsBy s s.saves → AdvanceLaws s → (most : ℕ) (turn : List Item) (old new : Stand O R) →
     TakesTurn g h s most turn old new → StaysSaved s old.replica new.replica
-turn_stays g h s last further still followed saved forgotten most turn old new t = (
-  forget_saved s forgotten t.stored new.replica t.forgets (last t.made t.stored t.saved),
-  turn_keeps g h s further still followed saved forgotten most turn old new t,
-)
+turn_stays g h s last further still followed saved laws most turn old new t =
+    forget_stays s further still laws old.replica t.stored new.replica t.forgets (
+      last t.made t.stored t.saved,
+      further old.replica t.made t.stored (followed old.replica t.made t.follows) (saved t.made t.stored t.saved),
+    )
+
+-- and so does one after which the keeper advanced
+pub between_stays : {O R : Type 0} (g : Ghosts O) (s : Saving R) → KeepsFurther s → KeepsStill s → AdvanceLaws s →
+    (old : R) (mid new : Stand O R) → AdvancesBetween g s mid new → StaysSaved s old mid.replica →
+    StaysSaved s old new.replica
+between_stays g s further still laws old mid new on =
+    advance_stays s further still laws old mid.replica new.replica on.packets on.advances
 
 -- what the store is to keep stood through all turns
-takes_keep : {O R : Type 0} (g : Ghosts O) (h : ReplicaGhosts R) (s : Saving R) → KeepsStill s → KeepsFurther s →
-    KeepsBy s h.follows → KeepsBy s s.saves → ForgottenOn s → (most : ℕ) (turns : List (List (SentItem Item)))
-    (old new : Stand O R) → TakesTurns g h s most turns old new → s.keeps old.replica new.replica
-takes_keep g h s still further followed saved forgotten most [] old new e =
+takes_keep : {O R : Type 0} (g : Ghosts O) (h : ReplicaGhosts R) (s : Saving R) →
+    ((a b : R) → s.saves a b → s.is_saved b) → KeepsFurther s → KeepsStill s → KeepsBy s h.follows →
+    KeepsBy s s.saves → AdvanceLaws s → (most : ℕ) (turns : List (List (SentItem Item))) (old new : Stand O R) →
+    TakesTurns g h s most turns old new → s.keeps old.replica new.replica
+takes_keep g h s last further still followed saved laws most [] old new e =
     subst (λ (w : Stand _ _). s.keeps old.replica w.replica) e (still old.replica)
-takes_keep g h s still further followed saved forgotten most (x ∷ xs) old new (mid, one, more) =
+takes_keep g h s last further still followed saved laws most (x ∷ xs) old new (end, mid, one, on, more) =
     further old.replica mid.replica new.replica
-    (turn_keeps g h s further still followed saved forgotten most (items_in x) old mid one)
-    (takes_keep g h s still further followed saved forgotten most xs mid new more)
+    (between_stays g s further still laws old.replica end mid on
+    (turn_stays g h s last further still followed saved laws most (items_in x) old end one)).1
+    (takes_keep g h s last further still followed saved laws most xs mid new more)
 
 -- a list of one
 one_only : (xs : List (SentItem Item)) → 0 < length xs → length xs ≤ 1 → (x : SentItem Item) × (xs ≡ x ∷ [])
@@ -277,17 +277,35 @@ one_only (x ∷ y ∷ more) some few = absurd (omega (arith, few))
 
 -- where a turn is one item, it is the last item that was not saved
 pub turn_to_last : {O R : Type 0} (g : Ghosts O) (h : ReplicaGhosts R) (s : Saving R) → TakesNone g → TakesThen g →
-    KeepsStill s → KeepsFurther s → KeepsBy s h.follows → KeepsBy s s.saves → ForgottenOn s → (fault : Refusal)
-    (b a : List (SentItem Item)) (old new : Stand O R) → RanToTurn g h s 1 fault b old a new →
-    RanToLast g h s fault b old a new
-turn_to_last g h s none then still further followed saved forgotten fault b a old new (before, end, ran, last) =
-    let one = one_only last.turn last.some last.few in (
+    ((a b : R) → s.saves a b → s.is_saved b) → KeepsFurther s → KeepsStill s → KeepsBy s h.follows →
+    KeepsBy s s.saves → AdvanceLaws s → (fault : Refusal) (b a : List (SentItem Item)) (old new : Stand O R) →
+    RanToTurn g h s 1 fault b old a new → RanToLast g h s fault b old a new
+turn_to_last g h s none then last further still followed saved laws fault b a old new (before, end, ran, inl unsaved) =
+    let one = one_only unsaved.turn unsaved.some unsaved.few in (
       before,
-      one.0,
       end,
-      last.taken_is ∙ ap (λ w. before ++ w) one.1,
-      subst (λ w. Ran g h s b old.replica old.out before end.replica w) (sym last.silent)
+      subst (λ w. Ran g h s b old.replica old.out before end.replica w) (sym unsaved.silent)
           (turns_ran g h s none then 1 b before old end ran),
-      takes_keep g h s still further followed saved forgotten 1 ran.0 old end ran.2,
-      subst (λ w. IsUnsaved h s fault (items_in w) end.replica new.replica) one.1 last.unsaved,
+      takes_keep g h s last further still followed saved laws 1 ran.0 old end ran.2,
+      inl (
+        one.0,
+        unsaved.taken_is ∙ ap (λ w. before ++ w) one.1,
+        subst (λ w. IsUnsaved h s fault (items_in w) end.replica new.replica) one.1 unsaved.unsaved,
+      ),
     )
+turn_to_last g h s none then last further still followed saved laws fault b a old new
+    (before, end, ran, inr (taken, stopped)) = (
+      before,
+      end,
+      subst (λ w. Ran g h s b old.replica old.out before end.replica w) (sym stopped.silent)
+          (turns_ran g h s none then 1 b before old end ran),
+      takes_keep g h s last further still followed saved laws 1 ran.0 old end ran.2,
+      inr (taken, stopped.stops),
+    )
+
+-- turns, and then some up to a last one
+pub turns_to_turn : {O R : Type 0} (g : Ghosts O) (h : ReplicaGhosts R) (s : Saving R) (most : ℕ) (fault : Refusal)
+    (b m a : List (SentItem Item)) (old mid new : Stand O R) → RanInTurns g h s most b old m mid →
+    RanToTurn g h s most fault m mid a new → RanToTurn g h s most fault b old a new
+turns_to_turn g h s most fault b m a old mid new first (before, end, ran, how) =
+    (before, end, turns_then g h s most b m before old mid end first ran, how)

@@ -4,6 +4,7 @@ pub mod OutcomeAnswers
 pub mod Histories
 pub mod KeeperRuns
 pub mod KeeperTurns
+pub mod Advances
 pub mod EndingItems
 pub mod TurnSteps
 pub mod TurnTelling

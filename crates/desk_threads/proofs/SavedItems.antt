@@ -1,15 +1,15 @@
 -- Items with saves between them: of none, of a turn that was saved, and one list of them after another.
 use Rattle.std.proofs.Common.{◌≡◌, ◌<◌, ◌++◌, ◌∙◌, ℕ, List, [], ◌∷◌, length, refl, sym, ap, subst, inl, inr}
-use Rattle.std.proofs.Common.{append_assoc, arith, Result, Ok, Err}
+use Rattle.std.proofs.Common.{append_assoc, append-nil, arith, Result, Ok, Err}
 use Rattle.desk_types.specs.declared.epoch_packet.EpochPacket.{EpochPacket}
 use Rattle.desk_types.specs.declared.refusal.Refusal.{Refusal}
 use Rattle.desk_mailbox.specs.declared.item.Item.{Item}
 use Rattle.desk_replica.specs.declared.answer.Answer.{Answer}
 use Rattle.desk_replica.specs.declared.item_step.ItemStep.{ItemStep}
 use Rattle.desk_replica.specs.declared.replica.Replica.{Ghosts}
-use Rattle.desk_threads.specs.Replicas.{MeetsItem, MeetsItems}
+use Rattle.desk_threads.specs.Replicas.{MeetsItems}
 use Rattle.desk_threads.specs.SavedItems.{MeetsAndSaves, MeetsAndFails, SavesAndForgets}
-use Rattle.desk_replica.specs.Saving.{Saving, LogsGoOn}
+use Rattle.desk_replica.specs.Saving.{Saving, LogsGoOn, Advances}
 use Rattle.desk_threads.specs.Turns.{MetAndSaved, EndsInSave}
 use Rattle.desk_threads.proofs.Histories.{goes_then}
 
@@ -23,52 +23,58 @@ saves_then {R} g s k m new [] ys p q a b (e, f, same) h =
     subst (λ (x : R). MeetsAndSaves g s x ys (p ++ q) (a ++ b) new) same
     (subst (λ (w : List (ℕ × EpochPacket)). MeetsAndSaves g s m ys (w ++ q) (a ++ b) new) (sym e)
     (subst (λ (w : List Answer). MeetsAndSaves g s m ys q (w ++ b) new) (sym f) h))
-saves_then g s k m new (x ∷ xs) ys p q a b (made, mid, first, last, early, late, e, f, one, saved, more) h = (
+saves_then g s k m new (x ∷ xs) ys p q a b (made, mid, first, between, last, early, late, e, f, one, saved, more) h = (
   made,
   mid,
   first,
+  between,
   last ++ q,
   early,
   late ++ b,
-  ap (λ w. w ++ q) e ∙ append_assoc first last q,
+  ap (λ w. w ++ q) e ∙ append_assoc first (between ++ last) q ∙ ap (λ w. first ++ w) (append_assoc between last q),
   ap (λ w. w ++ b) f ∙ append_assoc early late b,
   one,
   saved,
   saves_then g s mid m new xs ys last q late b more h,
 )
 
--- the items of a turn were met, and what they made was saved
-pub turn_saves : {R : Type 0} (g : Ghosts R) (s : Saving R) (k made new : R) (turn : List Item)
-    (packets : List (ℕ × EpochPacket)) (answers : List Answer) → 0 < length turn →
-    MeetsItems g k turn packets answers made → SavesAndForgets s made new →
-    MeetsAndSaves g s k turn packets answers new
-turn_saves g s k made new [] packets answers some met saved = absurd (omega (arith, some))
-turn_saves {R} g s k made new (x ∷ []) packets answers some (mid, first, last, early, late, e, f, one, rest) saved = (
-  mid,
-  new,
-  first,
-  last,
-  early,
-  late,
-  e,
-  f,
-  one,
-  inr (subst (λ (r : R). SavesAndForgets s r new) rest.2 saved),
-  (rest.0, rest.1, refl),
-)
-turn_saves g s k made new (x ∷ y ∷ more) packets answers some (mid, first, last, early, late, e, f, one, rest) saved = (
-  mid,
-  mid,
-  first,
-  last,
-  early,
-  late,
-  e,
-  f,
-  one,
-  inl refl,
-  turn_saves g s mid made new (y ∷ more) last late (omega arith) rest saved,
-)
+-- the items of a turn were met, what they made was saved, and the keeper advanced that
+pub turn_saves : {R : Type 0} (g : Ghosts R) (s : Saving R) (k made end new : R) (turn : List Item)
+    (packets after : List (ℕ × EpochPacket)) (answers : List Answer) → 0 < length turn →
+    MeetsItems g k turn packets answers made → SavesAndForgets s made end → Advances s end after new →
+    MeetsAndSaves g s k turn (packets ++ after) answers new
+turn_saves g s k made end new [] packets after answers some met saved on = absurd (omega (arith, some))
+turn_saves {R} g s k made end new (x ∷ []) packets after answers some
+    (mid, first, last, early, late, e, f, one, rest) saved on = (
+      mid,
+      new,
+      first,
+      after,
+      [],
+      early,
+      late,
+      ap (λ w. w ++ after) (e ∙ ap (λ w. first ++ w) rest.0 ∙ append-nil first)
+          ∙ ap (λ w. first ++ w) (sym (append-nil after)),
+      f,
+      one,
+      inr (end, subst (λ (r : R). SavesAndForgets s r end) rest.2 saved, on),
+      (refl, rest.1, refl),
+    )
+turn_saves g s k made end new (x ∷ y ∷ more) packets after answers some
+    (mid, first, last, early, late, e, f, one, rest) saved on = (
+      mid,
+      mid,
+      first,
+      [],
+      last ++ after,
+      early,
+      late,
+      ap (λ w. w ++ after) e ∙ append_assoc first last after,
+      f,
+      one,
+      inl (refl, refl),
+      turn_saves g s mid made end new (y ∷ more) last after late (omega arith) rest saved on,
+    )
 
 -- what a turn made was saved where that is told
 pub saves_if : {R A : Type 0} (s : Saving R) (made new : R) (outcome : Result A Refusal) (x : A) → outcome ≡ Ok x →

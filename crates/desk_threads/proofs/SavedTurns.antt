@@ -1,11 +1,12 @@
 -- What a keeper's clauses say of a node with its store, from what they say of any replica.
-use Rattle.std.proofs.Common.{◌≡◌, ◌≢◌, ◌++◌, ℕ, List, [], ◌∷◌, refl, sym, ◌∙◌, ap, subst, inl, inr, ⊎_elim}
+use Rattle.std.proofs.Common.{◌≡◌, ◌≢◌, ◌++◌, ℕ, List, [], ◌∷◌, refl, sym, ◌∙◌, ap, subst, inl, inr}
 use Rattle.std.proofs.Common.{MatchBool, length, take, zero, suc, ◌≤◌, arith}
 use Rattle.std.proofs.lemmas.List.{length-take}
 use mathlib.Core.List.{IsPrefix}
 use Rattle.desk_types.specs.declared.command.Entry.{Entry}
 use Rattle.desk_types.specs.declared.owner.Owner.{Owner}
 use Rattle.desk_types.specs.declared.epoch_packet.EpochPacket.{EpochPacket}
+use Rattle.desk_types.specs.declared.refusal.Refusal.{Refusal}
 use Rattle.desk_log.specs.Entries.{IsLogPrefix}
 use Rattle.desk_log.specs.SavedValue.{SavedValue, committed_entries}
 use Rattle.desk_log.specs.declared.state_store.StateStore.{Ghosts as StoreGhosts}
@@ -20,11 +21,12 @@ use Rattle.desk_threads.specs.Filed.{IsFiled, IsUnfiled}
 use Rattle.desk_threads.specs.ItemAnswers.{AnswersSessions}
 use Rattle.desk_threads.specs.OwnedValue.{OwnedValue, DoesItem, DoesItems}
 use Rattle.desk_threads.specs.Replicas.{MeetsItem, MeetsItems}
-use Rattle.desk_threads.specs.Runs.{items_in, Ran, Stand, TakesTurn}
+use Rattle.desk_threads.specs.Runs.{items_in, Ran, RanInTurns, RanToLast, RanToTurn, Stand, TakesLast, TakesLastItem}
+use Rattle.desk_threads.specs.Runs.{TakesTurn}
 use Rattle.desk_threads.specs.SavedItems.{DoesAndForgets, DoesAndFails, MeetsAndSaves, MeetsAndFails}
-use Rattle.desk_threads.specs.SavedItems.{RefusesAndForgets}
+use Rattle.desk_threads.specs.SavedItems.{MaySave, RefusesAndForgets}
 use Rattle.desk_threads.specs.SavedNodes.{saved_node_replica, node_saving, SavedNodeRefuses, SavesNode}
-use Rattle.desk_replica.specs.Saving.{MayForget, GoesOnAndForgets, LogsGoOn, StaysSaved}
+use Rattle.desk_replica.specs.Saving.{Advances, MayForget, MayPrepare, GoesOnAndForgets, LogsGoOn, StaysSaved}
 use Rattle.desk_threads.specs.Telling.{AnswersItems}
 use Rattle.desk_threads.proofs.ReplicaItems.{node_replica, node_items}
 
@@ -33,6 +35,51 @@ pub node_forgets_nothing : {S : Type 0} (g : StoreGhosts S) (old new : SavedNode
     MayForget (node_saving g) old new → new ≡ old
 node_forgets_nothing g old new (inl same) = same
 node_forgets_nothing g old new (inr same) = same
+
+-- It has nothing to prepare,
+pub node_prepares_nothing : {S : Type 0} (g : StoreGhosts S) (old new : SavedNode S) →
+    MayPrepare (node_saving g) old new → new ≡ old
+node_prepares_nothing g old new (inl same) = same
+node_prepares_nothing g old new (inr same) = same
+
+-- and no next epoch, so nothing is done between two turns.
+pub node_advances_nothing : {S : Type 0} (g : StoreGhosts S) (old new : SavedNode S)
+    (packets : List (ℕ × EpochPacket)) → Advances (node_saving g) old packets new → (packets ≡ []) × (new ≡ old)
+node_advances_nothing g old new packets (begun, inl (none, same), prepares) =
+    (none, node_prepares_nothing g begun new prepares ∙ same)
+node_advances_nothing g old new packets (begun, inr begins, prepares) = absurd begins
+
+-- And where items of it may have been saved, nothing goes out for that.
+node_may_save : {S : Type 0} (g : StoreGhosts S) (made new : SavedNode S) (packets : List (ℕ × EpochPacket)) →
+    MaySave (node_saving g) made packets new → (packets ≡ []) × (new.owned ≡ made.owned)
+node_may_save {S} g made new packets (inl (none, same)) = (none, ap (λ (r : SavedNode S). r.owned) same)
+node_may_save {S} g made new packets (inr (end, (stored, saves, forgets), on)) =
+    let a = node_advances_nothing g end new packets on in (
+      a.0,
+      ap (λ (r : SavedNode S). r.owned) (a.1 ∙ node_forgets_nothing g stored end forgets) ∙ saves.0,
+    )
+
+-- Nor can a beginning of it fail: turns that failed end with one that was not saved,
+pub node_ran_to_turn : {O S : Type 0} (out : OutGhosts O) (g : StoreGhosts S) (most : ℕ) (fault : Refusal)
+    (taken taken_now : List (SentItem Item)) (old new : Stand O (SavedNode S)) →
+    RanToTurn out saved_node_replica (node_saving g) most fault taken old taken_now new →
+    (before : List (SentItem Item)) × (end : Stand O (SavedNode S))
+    × RanInTurns out saved_node_replica (node_saving g) most taken old before end
+    × TakesLast saved_node_replica (node_saving g) most fault before end taken_now new
+node_ran_to_turn out g most fault taken taken_now old new (before, end, ran, inl last) = (before, end, ran, last)
+node_ran_to_turn out g most fault taken taken_now old new (before, end, ran, inr (same, stopped)) = absurd stopped.stops
+
+-- and items that failed with one that was not.
+pub node_ran_to_last : {O S : Type 0} (out : OutGhosts O) (g : StoreGhosts S) (fault : Refusal)
+    (taken taken_now : List (SentItem Item)) (old new : Stand O (SavedNode S)) →
+    RanToLast out saved_node_replica (node_saving g) fault taken old taken_now new →
+    (before : List (SentItem Item)) × (end : Stand O (SavedNode S))
+    × Ran out saved_node_replica (node_saving g) taken old.replica old.out before end.replica new.out
+    × g.keeps old.replica.store end.replica.store
+    × TakesLastItem saved_node_replica (node_saving g) fault before end taken_now new
+node_ran_to_last out g fault taken taken_now old new (before, end, ran, keeps, inl last) =
+    (before, end, ran, keeps, last)
+node_ran_to_last out g fault taken taken_now old new (before, end, ran, keeps, inr (same, stops)) = absurd stops
 
 saved_item : {S : Type 0} (k new : SavedNode S) (item : Item) (packets : List (ℕ × EpochPacket))
     (answers : List Answer) → MeetsItem saved_node_replica k item packets answers new →
@@ -59,20 +106,18 @@ saves_items : {S : Type 0} (g : StoreGhosts S) (k new : SavedNode S) (items : Li
 saves_items {S} g k new [] packets answers (none, silent, same) =
     (none, silent, ap (λ (r : SavedNode S). r.owned) same)
 saves_items {S} g k new (item ∷ more) packets answers
-    (made, mid, first, last, early, late, e, f, one, saved, rest) =
+    (made, mid, first, between, last, early, late, e, f, one, saved, rest) =
     let o = saved_item k made item first early one in
-    let is : mid.owned ≡ made.owned =
-    ⊎_elim (λ (same : mid ≡ made). ap (λ (r : SavedNode S). r.owned) same)
-    (λ saves. ap (λ (r : SavedNode S). r.owned) (node_forgets_nothing g saves.0 mid saves.2) ∙ saves.1.0) saved in (
+    let is = node_may_save g made mid between saved in (
       made.owned,
       first,
       last,
       early,
       late,
-      e,
+      e ∙ ap (λ (w : List (ℕ × EpochPacket)). first ++ (w ++ last)) is.0,
       f,
       o.0,
-      subst (λ (k : OwnedValue). MeetsItems node_replica k more last late new.owned) is
+      subst (λ (k : OwnedValue). MeetsItems node_replica k more last late new.owned) is.1
           (saves_items g mid new more last late rest),
     )
 

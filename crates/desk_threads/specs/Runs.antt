@@ -14,7 +14,7 @@ use Rattle.desk_threads.specs.declared.handing.Out.{Ghosts}
 use Rattle.desk_replica.specs.declared.replica.Replica.{Ghosts as ReplicaGhosts}
 use Rattle.desk_threads.specs.Replicas.{MeetsItems}
 use Rattle.desk_threads.specs.SavedItems.{MeetsAndSaves, MeetsAndFails}
-use Rattle.desk_replica.specs.Saving.{Saving, MayForget, after_base}
+use Rattle.desk_replica.specs.Saving.{Saving, MayForget, Advances, after_base}
 use Rattle.desk_threads.specs.Waiting.{SessionValue}
 use Rattle.desk_threads.specs.EndingItems.{OnlyLastEnds}
 use Rattle.desk_threads.specs.Telling.{TellsOfTurn, TellsOfStop}
@@ -89,12 +89,22 @@ pub record TakesTurn {O R : Type 0} (g : Ghosts O) (h : ReplicaGhosts R) (s : Sa
       (new.published ≢ past ++ after_base s new.replica)
   pub reported : TellsOfTurn new.published turn answers old.waiting new.waiting
 
--- So do turns, one after the other.
+-- Between two turns the keeper advanced its replica, the packets of that went out, and nothing else changed.
+pub record AdvancesBetween {O R : Type 0} (g : Ghosts O) (s : Saving R) (old new : Stand O R) : Type 0 where
+  pub packets : List (ℕ × EpochPacket)
+  pub advances : Advances s old.replica packets new.replica
+  pub gave : g.takes old.out packets new.out
+  pub waiting : new.waiting ≡ old.waiting
+  pub published : new.published ≡ old.published
+  pub all_published : new.all_published ≡ old.all_published
+
+-- So do turns, one after the other, and after each the keeper advances.
 abbrev pub TakesTurns : {O R : Type 0} → Ghosts O → ReplicaGhosts R → Saving R → ℕ → List (List (SentItem Item)) →
     Stand O R → Stand O R → Type 0
 TakesTurns g h s most [] old new = old ≡ new
 TakesTurns {O} {R} g h s most (turn ∷ more) old new =
-    (mid : Stand O R) × TakesTurn g h s most (items_in turn) old mid × TakesTurns g h s most more mid new
+    (end : Stand O R) × (mid : Stand O R) × TakesTurn g h s most (items_in turn) old end × AdvancesBetween g s end mid
+    × TakesTurns g h s most more mid new
 
 -- More was taken, all in such turns.
 abbrev pub RanInTurns : {O R : Type 0} → Ghosts O → ReplicaGhosts R → Saving R → ℕ → List (SentItem Item) → Stand O R →
@@ -140,18 +150,46 @@ pub record TakesLast {O R : Type 0} (h : ReplicaGhosts R) (s : Saving R) (most :
   pub reported : TellsOfStop old.published (items_in turn) old.waiting new.waiting
   pub unsaved : IsUnsaved h s fault (items_in turn) old.replica new.replica
 
--- More was taken, in turns up to such a last one.
+-- The keeper could not begin the next epoch, or prepare a beginning: nothing of that went out or was published, and all
+-- that waited were refused.
+pub record StopsBetween {O R : Type 0} (s : Saving R) (old new : Stand O R) : Type 0 where
+  pub stops : s.stops old.replica new.replica
+  pub silent : new.out ≡ old.out
+  pub unpublished : new.published ≡ old.published
+  pub reported : TellsOfStop old.published [] old.waiting new.waiting
+
+-- A turn that begins with an item that was taken failed: its save did, and nothing of it went out or was published; or
+-- it was saved, and then the keeper could not advance.
+abbrev pub FailsInTurn : {O R : Type 0} → Ghosts O → ReplicaGhosts R → Saving R → ℕ → Item → List (SentItem Item) →
+    Stand O R → List (SentItem Item) → Stand O R → Type 0
+FailsInTurn {O} {R} g h s most item taken old taken_now new =
+    (sent : List (SentItem Item)) × (taken_now ≡ taken ++ sent)
+    × (((length sent < most) × OnlyLastEnds (item ∷ items_in sent) × (new.out ≡ old.out)
+    × (new.published ≡ old.published) × TellsOfStop old.published (item ∷ items_in sent) old.waiting new.waiting
+    × MeetsAndFails h s old.replica (item ∷ items_in sent) new.replica)
+    ⊎ ((end : Stand O R) × (mid : Stand O R) × TakesTurn g h s most (item ∷ items_in sent) old end
+    × AdvancesBetween g s end mid × StopsBetween s mid new))
+
+-- More was taken, in turns up to such a last one; or all was taken in turns, and then the keeper could not advance.
 abbrev pub RanToTurn : {O R : Type 0} → Ghosts O → ReplicaGhosts R → Saving R → ℕ → Refusal → List (SentItem Item) →
     Stand O R → List (SentItem Item) → Stand O R → Type 0
 RanToTurn {O} {R} g h s most fault taken old taken_now new =
     (before : List (SentItem Item)) × (end : Stand O R) × RanInTurns g h s most taken old before end
-    × TakesLast h s most fault before end taken_now new
+    × (TakesLast h s most fault before end taken_now new ⊎ ((taken_now ≡ before) × StopsBetween s end new))
+
+-- The last that was taken was not saved.
+abbrev pub TakesLastItem : {O R : Type 0} → ReplicaGhosts R → Saving R → Refusal → List (SentItem Item) → Stand O R →
+    List (SentItem Item) → Stand O R → Type 0
+TakesLastItem h s fault before end taken_now new =
+    (last : SentItem Item) × (taken_now ≡ before ++ last ∷ [])
+    × IsUnsaved h s fault (last.item ∷ []) end.replica new.replica
 
 -- More was taken; it ran so up to the last of it, and what the store is to keep stood till then. The last was not
--- saved, and nothing of it went out.
+-- saved, and nothing of it went out; or all of it ran so, and then the keeper could not advance.
 abbrev pub RanToLast : {O R : Type 0} → Ghosts O → ReplicaGhosts R → Saving R → Refusal → List (SentItem Item) →
     Stand O R → List (SentItem Item) → Stand O R → Type 0
 RanToLast {O} {R} g h s fault taken old taken_now new =
-    (before : List (SentItem Item)) × (last : SentItem Item) × (end : Stand O R)
-    × (taken_now ≡ before ++ last ∷ []) × Ran g h s taken old.replica old.out before end.replica new.out
-    × s.keeps old.replica end.replica × IsUnsaved h s fault (last.item ∷ []) end.replica new.replica
+    (before : List (SentItem Item)) × (end : Stand O R)
+    × Ran g h s taken old.replica old.out before end.replica new.out × s.keeps old.replica end.replica
+    × (TakesLastItem h s fault before end taken_now new
+    ⊎ ((taken_now ≡ before) × s.stops end.replica new.replica))

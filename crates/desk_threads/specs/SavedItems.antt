@@ -5,7 +5,7 @@ use Rattle.desk_mailbox.specs.declared.item.Item.{Item}
 use Rattle.desk_replica.specs.declared.answer.Answer.{Answer}
 use Rattle.desk_replica.specs.declared.replica.Replica.{Ghosts}
 use Rattle.desk_threads.specs.Replicas.{MeetsItem, MeetsItems}
-use Rattle.desk_replica.specs.Saving.{Saving, MayForget}
+use Rattle.desk_replica.specs.Saving.{Saving, MayForget, Advances}
 
 -- The item was done, and what it made was saved.
 abbrev pub DoesAndSaves : {R : Type 0} → Ghosts R → Saving R → R → Item → List (ℕ × EpochPacket) → List Answer → R →
@@ -40,12 +40,17 @@ MeetsAndFails {R} g s old items new =
 abbrev pub SavesAndForgets : {R : Type 0} → Saving R → R → R → Type 0
 SavesAndForgets {R} s made new = (saved : R) × s.saves made saved × MayForget s saved new
 
+-- What an item made is as it was; or it was saved, and the keeper advanced it, for which these packets went out.
+abbrev pub MaySave : {R : Type 0} → Saving R → R → List (ℕ × EpochPacket) → R → Type 0
+MaySave {R} s made packets new =
+    ((packets ≡ []) × (new ≡ made)) ⊎ ((end : R) × SavesAndForgets s made end × Advances s end packets new)
+
 -- The items were done or refused, in order, and what each of them made may have been saved after it.
 abbrev pub MeetsAndSaves : {R : Type 0} → Ghosts R → Saving R → R → List Item → List (ℕ × EpochPacket) →
     List Answer → R → Type 0
 MeetsAndSaves g s old [] packets answers new = (packets ≡ []) × (answers ≡ []) × (new ≡ old)
 MeetsAndSaves {R} g s old (item ∷ more) packets answers new =
-    (made : R) × (mid : R) × (first : List (ℕ × EpochPacket)) × (last : List (ℕ × EpochPacket))
-    × (early : List Answer) × (late : List Answer) × (packets ≡ first ++ last) × (answers ≡ early ++ late)
-    × MeetsItem g old item first early made × ((mid ≡ made) ⊎ SavesAndForgets s made mid)
-    × MeetsAndSaves g s mid more last late new
+    (made : R) × (mid : R) × (first : List (ℕ × EpochPacket)) × (between : List (ℕ × EpochPacket))
+    × (last : List (ℕ × EpochPacket)) × (early : List Answer) × (late : List Answer)
+    × (packets ≡ first ++ (between ++ last)) × (answers ≡ early ++ late)
+    × MeetsItem g old item first early made × MaySave s made between mid × MeetsAndSaves g s mid more last late new

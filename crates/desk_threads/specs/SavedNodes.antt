@@ -4,7 +4,6 @@ use Rattle.std.proofs.Common.{refl, ap, ◌∙◌, sym, subst, append-nil}
 use Rattle.std.proofs.Props.{props}
 use mathlib.Core.List.{IsPrefix}
 use Rattle.desk_types.specs.declared.command.Entry.{Entry}
-use Rattle.desk_types.specs.declared.owner.Owner.{Owner}
 use Rattle.desk_types.specs.declared.epoch_packet.EpochPacket.{EpochPacket}
 use Rattle.desk_log.specs.SavedValue.{SavedValue, committed_entries}
 use Rattle.desk_log.specs.declared.state_store.StateStore.{Ghosts}
@@ -17,7 +16,8 @@ use Rattle.desk_threads.specs.NodeInOrder.{node_still, node_further}
 use Rattle.desk_threads.specs.NodeReplica.{NodeDoes, NodeFollows, NodeRefuses}
 use Rattle.desk_threads.specs.OwnedValue.{OwnedValue}
 use Rattle.desk_threads.specs.Prefixes.{begins}
-use Rattle.desk_replica.specs.Saving.{Saving, LogsGoOn, ForgetsReported}
+use Rattle.desk_replica.specs.Owners.{owner_of_node}
+use Rattle.desk_replica.specs.Saving.{Saving, LogsGoOn, ForgetsReported, BeginsEpoch, HasSameLogs, StaysSaved}
 use Rattle.desk_node.specs.NodeValue.{NodeValue, IsSameNode}
 
 -- The node did an item in memory, and its store is as it was.
@@ -52,10 +52,6 @@ no_past_prop past = Prim.hlevel props
 pub IsSavedNode-prop : {S : Type 0} (g : Ghosts S) (r : SavedNode S) → IsProp (IsSavedNode g r)
 IsSavedNode-prop g r = Prim.hlevel props
 
--- whose node it is
-abbrev pub owner_of_node : NodeValue → Owner
-owner_of_node k = record { id = k.id; n = k.n; domain = k.domain }
-
 -- A node's state, its one log, and what its store makes of them.
 abbrev pub node_saving : {S : Type 0} → Ghosts S → Saving (SavedNode S)
 node_saving g = record {
@@ -69,6 +65,11 @@ node_saving g = record {
   fails = FailsToSaveNode g;
   keeps = λ old new. g.keeps old.store new.store;
   forgets = λ old new. new ≡ old;
+  may_begin = λ r. false;
+  begins = λ old packets new. ⊥;
+  is_ready = λ r. Unit {0};
+  prepares = λ old new. new ≡ old;
+  stops = λ old new. ⊥;
   stands_prop = λ r past. no_past_prop past;
   saved_prop = λ r. IsSavedNode-prop g r;
 }
@@ -163,3 +164,23 @@ node_forgets {S} g still old new same = record {
   saved = λ is. subst (λ (r : SavedNode S). IsSavedNode g r) (sym same) is;
   keeps = subst (λ (r : SavedNode S). g.keeps old.store r.store) (sym same) (still old.store);
 }
+
+-- It has no next epoch,
+pub node_begins : {S : Type 0} (g : Ghosts S) (old new : SavedNode S) → ⊥ →
+    BeginsEpoch (node_saving g) old new × StaysSaved (node_saving g) old new
+node_begins g old new begins = absurd begins
+
+-- and nothing to prepare.
+pub node_prepares : {S : Type 0} (g : Ghosts S) → ((a : S) → g.keeps a a) → (old new : SavedNode S) → new ≡ old →
+    HasSameLogs (node_saving g) old new × (IsSavedNode g old → IsSavedNode g new) × g.keeps old.store new.store
+node_prepares {S} g still old new same = (
+  record {
+    owner = ap (λ (r : SavedNode S). owner_of_node r.owned.node) same;
+    base = refl;
+    reported = refl;
+    cut = ap (λ (r : SavedNode S). committed_entries r.owned.node.saved) same;
+    stands = λ past none. none;
+  },
+  λ is. subst (λ (r : SavedNode S). IsSavedNode g r) (sym same) is,
+  subst (λ (r : SavedNode S). g.keeps old.store r.store) (sym same) (still old.store),
+)

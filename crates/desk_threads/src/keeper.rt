@@ -43,6 +43,7 @@ where
     pub ghost next: { EqualsPrefix writer.noted (followed_by (R.SavedReplica.saving.base replica) writer.noted
         (to_publish R.SavedReplica.saving replica)) },
     pub ghost noted: { EqualsPrefix writer.noted (replica_history R.SavedReplica.saving replica writer.noted) },
+    pub ghost held: { EqualsPrefix (published writer.inner) writer.noted },
     pub ghost shown: { EqualsPrefix (published writer.inner)
         (replica_history R.SavedReplica.saving replica writer.noted) },
     pub ghost domain_is: { (R.SavedReplica.saving.owner replica).domain ≡ B.domain },

@@ -4,6 +4,7 @@
 #![tactic(auto)]
 
 mod act;
+mod advancing;
 mod awaits;
 mod gathered;
 mod guard;
@@ -29,7 +30,9 @@ pub use gathered::{Gathered, gather};
 pub use guard::KeeperGuard;
 pub use handing::{Out, hand_all};
 pub use keeper::Keeper;
-pub use opening::{PEERS, SENDERS, SESSIONS, SessionEnds, TIMERS, open_keeper, open_saved};
+pub use opening::{
+    PEERS, SENDERS, SESSIONS, SessionEnds, TIMERS, open_keeper, open_replica, open_saved,
+};
 pub use owned_node::OwnedNode;
 pub use saved_node::SavedNode;
 pub use turn::TURN_ITEMS;

@@ -1,9 +1,11 @@
 //! A keeper at its start, with those who put items and those who read.
 
-ghost use Rattle.std.specs.Prelude.{◌≡◌, ◌<◌, ◌++◌, ◌∷◌, false, [], length, replicate, All, IfOk};
+ghost use Rattle.std.specs.Prelude.{◌≡◌, ◌<◌, ◌++◌, ◌∷◌, true, false, [], length, replicate, All, IfOk};
 ghost use Rattle.desk_types.specs.Group.{IsGroup};
 ghost use Rattle.desk_log.specs.SavedValue.{committed_entries};
 ghost use Rattle.desk_published.specs.Writer.{EqualsPrefix, published};
+ghost use Rattle.desk_replica.specs.Saving.{MayPrepare};
+ghost use Rattle.desk_threads.specs.Noted.{IsNoted, replica_history};
 ghost use Rattle.desk_threads.specs.Waiting.{idle};
 ghost use Rattle.desk_mailbox.specs.Ends.{capacity_of, taken_by, no_sender_left, first_numbers, numbers_of};
 ghost use Rattle.desk_mailbox.specs.Ends.{IsNewSender};
@@ -23,7 +25,8 @@ use desk_published::{
     BoardName, BoardReader, BoardWriter, NewHistory, NextEntry, PrefixRule, PublishedBoard,
     Reported, SeatView,
 };
-use desk_types::{Entry, Owner, WantOfMemory};
+use desk_replica::SavedReplica;
+use desk_types::{Entry, Owner, Refusal, WantOfMemory};
 use left_right::Absorb;
 use std::alloc::Global;
 use std::sync::Wait;
@@ -103,6 +106,7 @@ fn open_writer<B: BoardName, R: Wait>(
     requires node { node.now.domain ≡ B.domain }
     ensures shown { IfOk result (λ p. published p.inner ≡ committed_entries node.now.saved) }
     ensures noted { IfOk result (λ p. EqualsPrefix p.noted (committed_entries node.now.saved)) }
+    ensures held { IfOk result (λ p. EqualsPrefix (published p.inner) p.noted) }
     ensures front { IfOk result (λ p. EqualsPrefix (published p.inner) (committed_entries node.now.saved)) }
 {
     let writer: BoardWriter<B> = BoardWriter::new(alloc, node.domain(), history, SESSIONS)?;
@@ -114,7 +118,7 @@ fn open_writer<B: BoardName, R: Wait>(
     Err(WantOfMemory)
 }
 
-// All of a keeper but its node and its store.
+// The mailbox of a keeper with its sessions.
 struct Front<B: BoardName>
 where
     PublishedBoard<B>: Absorb<NextEntry<B>, State = [Entry; 0]>,
@@ -122,20 +126,15 @@ where
 {
     taker: Taker<Item>,
     senders: Vec<Sender<Item>>,
-    writer: BoardWriter<B>,
     waiting: WaitingSessions<B>,
     sessions: Vec<SessionEnds<B>>,
 }
 
-// Opens the mailbox, the board and the sessions of a keeper.
-fn open_front<B: BoardName, R: Wait>(
-    rt: &R,
+// Opens the mailbox and the sessions of a keeper that has this writer.
+fn open_front<B: BoardName>(
     alloc: Global,
-    history: NewHistory,
-    node: &Node,
+    writer: &BoardWriter<B>,
 ) -> Result<Front<B>, WantOfMemory>
-    requires book { history.seen.book ≡ B.book }
-    requires node { node.now.domain ≡ B.domain }
     ensures taken { IfOk result (λ front. taken_by front.taker ≡ []) }
     ensures left { IfOk result (λ front. no_sender_left front.taker ≡ false) }
     ensures senders { IfOk result (λ front. All (IsNewSender front.taker) front.senders.items) }
@@ -144,30 +143,78 @@ fn open_front<B: BoardName, R: Wait>(
     ensures capacity { IfOk result (λ front. capacity_of front.taker ≡ MAILBOX_ITEMS) }
     ensures waiting { IfOk result (λ front. front.waiting ≡ replicate SESSIONS idle) }
     ensures sessions_count { IfOk result (λ front. length front.sessions.items ≡ SESSIONS) }
-    ensures shown { IfOk result (λ front. published front.writer.inner ≡ committed_entries node.now.saved) }
-    ensures noted { IfOk result (λ front. EqualsPrefix front.writer.noted
-        (committed_entries node.now.saved)) }
-    ensures front { IfOk result (λ front. EqualsPrefix (published front.writer.inner)
-        (committed_entries node.now.saved)) }
-    ensures readers { IfOk result (λ front. All (λ s. s.reader.pass ≡ published front.writer.inner)
+    ensures readers { IfOk result (λ front. All (λ s. s.reader.pass ≡ published writer.now.inner)
         front.sessions.items) }
 {
     let (taker, senders) = open_mailbox::<Item>(alloc, MAILBOX_ITEMS, SENDERS)?;
-    let writer = open_writer(rt, alloc, history, node)?;
     let mut waiting = WaitingSessions::new(alloc);
-    match open_sessions(alloc, &writer, &mut waiting) {
-        Ok(sessions) => Ok(Front {
-            taker,
-            senders,
-            writer,
-            waiting,
-            sessions,
-        }),
-        Err(refused) => {
-            writer.end(rt);
-            Err(refused)
-        }
+    let sessions = open_sessions(alloc, writer, &mut waiting)?;
+    Ok(Front {
+        taker,
+        senders,
+        waiting,
+        sessions,
+    })
+}
+
+/// A keeper of a replica that is saved, all of whose committed entries the writer has published; with the senders of
+/// its mailbox, which holds `MAILBOX_ITEMS` items, and what the first of these, the sessions, get their answers by and
+/// read. Sender k has number k, from 0, and none of the sessions has asked anything. The k-th end of a session belongs
+/// to sender k, which no clause says of its channel. What the next beginning of the replica needs is opened here; where
+/// memory is refused to that, after a turn. Err is `WantOfMemory` where there is no memory for the mailbox or the
+/// sessions, and `StoreFault` where the beginning could not be prepared.
+pub fn open_replica<B: BoardName, R: SavedReplica + Drop, W: Wait>(
+    rt: &W,
+    alloc: Global,
+    writer: BoardWriter<B>,
+    replica: R,
+) -> Result<(Keeper<B, R>, Vec<Sender<Item>>, Vec<SessionEnds<B>>), Refusal>
+    requires domain { (R.SavedReplica.saving.owner replica).domain ≡ B.domain }
+    requires saved { R.SavedReplica.saving.is_saved replica }
+    requires noted { IsNoted R.SavedReplica.saving replica writer.noted }
+    requires held { EqualsPrefix (published writer.inner) writer.noted }
+    requires whole { published writer.inner ≡ replica_history R.SavedReplica.saving replica writer.noted }
+    ensures replica { IfOk result (λ ends. MayPrepare R.SavedReplica.saving replica ends.0.replica) }
+    ensures writer { IfOk result (λ ends. ends.0.writer ≡ writer) }
+    ensures running { IfOk result (λ ends. ends.0.stopped ≡ false) }
+    ensures all_published { IfOk result (λ ends. ends.0.all_published ≡ true) }
+    ensures taken { IfOk result (λ ends. taken_by ends.0.taker ≡ []) }
+    ensures left { IfOk result (λ ends. no_sender_left ends.0.taker ≡ false) }
+    ensures senders { IfOk result (λ ends. All (IsNewSender ends.0.taker) ends.1.items) }
+    ensures senders_count { IfOk result (λ ends. length ends.1.items ≡ SENDERS) }
+    ensures numbers { IfOk result (λ ends. numbers_of ends.1.items ≡ first_numbers SENDERS) }
+    ensures capacity { IfOk result (λ ends. capacity_of ends.0.taker ≡ MAILBOX_ITEMS) }
+    ensures waiting { IfOk result (λ ends. ends.0.waiting ≡ replicate SESSIONS idle) }
+    ensures sessions_count { IfOk result (λ ends. length ends.2.items ≡ SESSIONS) }
+    ensures readers { IfOk result (λ ends. All (λ s. s.reader.pass ≡ published ends.0.writer.inner)
+        ends.2.items) }
+{
+    let Ok(front) = open_front(alloc, &writer) else {
+        writer.end(rt);
+        drop(replica);
+        return Err(Refusal::WantOfMemory);
+    };
+    let Front {
+        taker,
+        senders,
+        waiting,
+        sessions,
+    } = front;
+    let keeper = Keeper {
+        taker,
+        replica,
+        writer,
+        waiting,
+        stopped: false,
+        all_published: true,
+        alloc,
+    };
+    let (keeper, prepared) = keeper.prepare(rt);
+    if !prepared {
+        let (_taker, _replica) = keeper.end(rt);
+        return Err(Refusal::StoreFault);
     }
+    Ok((keeper, senders, sessions))
 }
 
 /// A keeper of a node whose state the store saved last, with the senders of its mailbox, which holds `MAILBOX_ITEMS`
@@ -212,28 +259,16 @@ pub fn open_keeper<B: BoardName, S: StateStore + Drop, R: Wait>(
         drop(store);
         return Err(WantOfMemory);
     };
-    let Ok(front) = open_front(rt, alloc, history, owned.node()) else {
+    let Ok(writer) = open_writer(rt, alloc, history, owned.node()) else {
         drop(owned);
         drop(store);
         return Err(WantOfMemory);
     };
-    let Front {
-        taker,
-        senders,
-        writer,
-        waiting,
-        sessions,
-    } = front;
-    let keeper = Keeper {
-        taker,
-        replica: SavedNode { owned, store },
-        writer,
-        waiting,
-        stopped: false,
-        all_published: true,
-        alloc,
+    let replica = SavedNode { owned, store };
+    let Ok(ends) = open_replica(rt, alloc, writer, replica) else {
+        return Err(WantOfMemory);
     };
-    Ok((keeper, senders, sessions))
+    Ok(ends)
 }
 
 // The node whose state the store saved last.

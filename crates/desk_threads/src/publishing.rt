@@ -1,6 +1,6 @@
 //! How what a replica has committed is published.
 
-ghost use Rattle.std.specs.Prelude.{◌≡◌, ◌≢◌, [], true, false, MatchBool};
+ghost use Rattle.std.specs.Prelude.{◌≡◌, ◌≢◌, true, false, MatchBool};
 ghost use mathlib.Core.List.{IsPrefix};
 ghost use Rattle.desk_published.specs.Writer.{EqualsPrefix, published};
 ghost use Rattle.desk_replica.specs.Saving.{MayForget};
@@ -21,7 +21,9 @@ fn publish_reported<B: BoardName, R: SavedReplica, W: Wait>(
     requires noted { IsNoted R.SavedReplica.saving replica.old writer.noted }
     requires shown { EqualsPrefix (published writer.inner)
         (replica_history R.SavedReplica.saving replica.old writer.noted) }
+    requires held { EqualsPrefix (published writer.inner) writer.noted }
     ensures noted { IsNoted R.SavedReplica.saving replica.new result.0.noted }
+    ensures held { IsPrefix (published result.0.inner) result.0.noted }
     ensures grows { IsPrefix (published writer.inner) (published result.0.inner) }
     ensures shown { IsPrefix (published result.0.inner)
         (replica_history R.SavedReplica.saving replica.new result.0.noted) }
@@ -56,7 +58,9 @@ pub(crate) fn publish_committed<B: BoardName, R: SavedReplica, W: Wait>(
     requires noted { IsNoted R.SavedReplica.saving replica.old writer.noted }
     requires shown { EqualsPrefix (published writer.inner)
         (replica_history R.SavedReplica.saving replica.old writer.noted) }
+    requires held { EqualsPrefix (published writer.inner) writer.noted }
     ensures noted { IsNoted R.SavedReplica.saving replica.new result.0.noted }
+    ensures held { IsPrefix (published result.0.inner) result.0.noted }
     ensures grows { IsPrefix (published writer.inner) (published result.0.inner) }
     ensures shown { IsPrefix (published result.0.inner)
         (replica_history R.SavedReplica.saving replica.new result.0.noted) }

@@ -1,13 +1,14 @@
 //! A keeper that does turn after turn.
 
-ghost use Rattle.std.specs.Prelude.{◌≡◌, ◌<◌, ◌++◌, ◌∷◌, [], true, false, not, is_some};
+ghost use Rattle.std.specs.Prelude.{◌≡◌, ◌<◌, ◌++◌, ◌∷◌, [], List, true, false, not, is_some};
 ghost use Rattle.std.specs.Prelude.{IfOk, IfErr, OnOk, OnErr, MatchOption};
 ghost use Rattle.desk_mailbox.specs.Ends.{taken_by, no_sender_left, IsSameTaker};
 ghost use Rattle.desk_types.specs.Refusal.{IsStoreRefusal};
 ghost use Rattle.desk_types.specs.declared.refusal.Refusal.TheVariants as refusals;
 ghost use Rattle.desk_published.specs.Writer.{published};
-ghost use Rattle.desk_threads.specs.Runs.{Ran, RanToLast, stand, RanInTurns, RanToEnd, TakesLast, RanToTurn};
-ghost use Rattle.desk_threads.specs.Runs.{HasRunOut};
+ghost use Rattle.desk_threads.specs.Runs.{Ran, RanToLast, stand, RanInTurns, RanToEnd, RanToTurn};
+ghost use Rattle.desk_threads.specs.Runs.{HasRunOut, AdvancesBetween, EndsInStop, FailsInTurn, Stand, TakesTurn};
+ghost use Rattle.desk_threads.specs.Runs.{items_in};
 ghost use Rattle.desk_replica.specs.Saving.{StaysSaved};
 
 use crate::handing::Out;
@@ -53,8 +54,47 @@ impl<B: BoardName, R: SavedReplica> Keeper<B, R> {
         (keeper, sent)
     }
 
-    // Takes an item, and does it with those that are there after it, so many in all at most. False after `Stop`, and
-    // where no sender is left.
+    // Does an item that was taken, and those that are there after it, so many in all at most, where the store has not
+    // failed; and advances, where that turn was saved. False after `Stop`.
+    fn serve_and_advance<W: Wait, O: Out>(
+        self,
+        rt: &W,
+        item: Item,
+        most: usize,
+        out: &mut O,
+    ) -> (Keeper<B, R>, Result<bool, Refusal>)
+        requires running { self.stopped ≡ false }
+        requires positive { 0 < most }
+        ensures taker { IsSameTaker self.taker result.0.taker }
+        ensures did { OnOk result.1 ((sent : List _) × (taken_by result.0.taker ≡ taken_by self.taker ++ sent)
+            × (end : Stand O R) × TakesTurn O.Out R.Replica R.SavedReplica.saving most (item ∷ items_in sent)
+            (stand self.replica self.waiting (published self.writer.inner) self.all_published out.old) end
+            × AdvancesBetween O.Out R.SavedReplica.saving end (stand result.0.replica result.0.waiting
+            (published result.0.writer.inner) result.0.all_published out.new)) }
+        ensures stopped { IfOk result.1 (λ more. more ≡ false → (sent : List _)
+            × (taken_by result.0.taker ≡ taken_by self.taker ++ sent) × EndsInStop (item ∷ items_in sent)) }
+        ensures failed { OnErr result.1 (FailsInTurn O.Out R.Replica R.SavedReplica.saving most item
+            (taken_by self.taker) (stand self.replica self.waiting (published self.writer.inner)
+            self.all_published out.old) (taken_by result.0.taker) (stand result.0.replica result.0.waiting
+            (published result.0.writer.inner) result.0.all_published out.new)) }
+        ensures running { OnOk result.1 (result.0.stopped ≡ false) }
+        ensures stops { OnErr result.1 (result.0.stopped ≡ true) }
+        ensures fault { IfErr result.1 (λ r. r ≡ refusals.StoreFault) }
+    {
+        let (keeper, outcome) = self.serve_turn(rt, item, most, out);
+        let more = match outcome {
+            Ok(more) => more,
+            Err(refusal) => return (keeper, Err(refusal)),
+        };
+        let (keeper, outcome) = keeper.advance(rt, out);
+        match outcome {
+            Ok(()) => (keeper, Ok(more)),
+            Err(refusal) => (keeper, Err(refusal)),
+        }
+    }
+
+    // Takes an item, and does it with those that are there after it, so many in all at most, and advances. False after
+    // `Stop`, and where no sender is left.
     fn turn<W: Wait, O: Out>(
         self,
         rt: &W,
@@ -75,8 +115,8 @@ impl<B: BoardName, R: SavedReplica> Keeper<B, R> {
             result.0.all_published out.new) (no_sender_left result.0.taker)) }
         ensures ends { IfOk result.1 (λ more. more ≡ false →
             HasRunOut (taken_by self.taker) (taken_by result.0.taker) (no_sender_left result.0.taker)) }
-        ensures failed { IfErr result.1 (λ r. TakesLast R.Replica R.SavedReplica.saving most r (taken_by self.taker)
-            (stand self.replica self.waiting (published self.writer.inner)
+        ensures failed { IfErr result.1 (λ r. RanToTurn O.Out R.Replica R.SavedReplica.saving most r
+            (taken_by self.taker) (stand self.replica self.waiting (published self.writer.inner)
             self.all_published out.old) (taken_by result.0.taker)
             (stand result.0.replica result.0.waiting (published result.0.writer.inner)
             result.0.all_published out.new)) }
@@ -102,7 +142,7 @@ impl<B: BoardName, R: SavedReplica> Keeper<B, R> {
                     drop(sent);
                     return (keeper, Err(Refusal::NodeStopped));
                 }
-                keeper.serve_turn(rt, sent.item, most, out)
+                keeper.serve_and_advance(rt, sent.item, most, out)
             }
         }
     }
@@ -110,9 +150,11 @@ impl<B: BoardName, R: SavedReplica> Keeper<B, R> {
     /// Takes and does items until `Stop`, or until no sender is left; it waits while the mailbox is empty. The items
     /// that are there when it takes one, `most` in all and no more, are a turn: their steps are done in order, in
     /// memory; then one save, one publish, and the packets of each step, in order. A tick, a stop and a packet that may
-    /// carry a log end their turn. An item that is refused for want of memory is counted, and ends nothing. Err is
-    /// `StoreFault`, where the save of the last turn failed, or `NodeStopped` where the store had failed before; then
-    /// nothing of the last turn went out or was published, and no session heard an answer of it.
+    /// carry a log end their turn. An item that is refused for want of memory is counted, and ends nothing. After a
+    /// turn that was saved the keeper begins the next epoch, where that is due and all is published, and prepares the
+    /// beginning after that. Err is `StoreFault`, where the save of the last turn failed, or `NodeStopped` where the
+    /// store had failed before; then nothing of the last turn went out or was published, and no session heard an answer
+    /// of it. It is `StoreFault` too where a beginning failed, or could not be prepared; nothing of that went out.
     pub fn run_turns<W: Wait, O: Out>(
         self,
         rt: &W,
@@ -158,8 +200,10 @@ impl<B: BoardName, R: SavedReplica> Keeper<B, R> {
     }
 
     /// Takes and does items until `Stop`, or until no sender is left, each with a save of its own; it waits while the
-    /// mailbox is empty. An item that is refused for want of memory is counted, and ends nothing. Err is `StoreFault`,
-    /// or `NodeStopped` where the store had failed before; then nothing of the last item went out or was published.
+    /// mailbox is empty. An item that is refused for want of memory is counted, and ends nothing. After an item whose
+    /// state was saved the keeper advances, as in `run_turns`. Err is `StoreFault`, where the save of the last item
+    /// failed, or `NodeStopped` where the store had failed before; then nothing of that item went out or was published.
+    /// It is `StoreFault` too where a beginning failed, or could not be prepared; nothing of that went out.
     pub fn run<W: Wait, O: Out>(self, rt: &W, out: &mut O) -> (Keeper<B, R>, Result<(), Refusal>)
         ensures same { IsSameTaker self.taker result.0.taker }
         ensures did { OnOk result.1 (Ran O.Out R.Replica R.SavedReplica.saving (taken_by self.taker)

@@ -43,7 +43,7 @@ impl<S: StateStore> SavedReplica for SavedNode<S> {
     ghost use Rattle.desk_threads.specs.SavedNodes.{node_saving, no_past_counts, node_saved_last, node_saved_same};
     ghost use Rattle.desk_threads.specs.SavedNodes.{node_refused_saved, node_followed_on, node_saved_on};
     ghost use Rattle.desk_threads.specs.SavedNodes.{node_failed_on, node_forgets, node_followed_keeps};
-    ghost use Rattle.desk_threads.specs.SavedNodes.{node_saved_keeps};
+    ghost use Rattle.desk_threads.specs.SavedNodes.{node_begins, node_prepares, node_saved_keeps};
 
     ghost saving = { node_saving S.StateStore };
 
@@ -70,6 +70,15 @@ impl<S: StateStore> SavedReplica for SavedNode<S> {
     // Nothing is reported to a node of one log.
     fn forget_reported(&mut self) {}
 
+    // Nor has it a next epoch.
+    fn begin_next(&mut self) -> Result<Option<ItemStep>, Refusal> {
+        Ok(None)
+    }
+
+    fn prepare(&mut self) -> Result<(), Refusal> {
+        Ok(())
+    }
+
     ghost past_counts = { λ r past none. no_past_counts past none };
 
     ghost saved_last = { λ old new saves. node_saved_last _ old new saves };
@@ -85,6 +94,10 @@ impl<S: StateStore> SavedReplica for SavedNode<S> {
     ghost failed_on = { λ old new fails. node_failed_on _ old new fails };
 
     ghost forgotten_on = { λ old new same. node_forgets _ S.preserved_still old new same };
+
+    ghost begun_on = { λ old new packets begins. node_begins _ old new begins };
+
+    ghost prepared_on = { λ old new same. node_prepares _ S.preserved_still old new same };
 
     ghost followed_keeps = { λ old new follows. node_followed_keeps S.keeps S.preserved_still old new follows };
 

@@ -86,6 +86,7 @@ fn end_saved<B: BoardName, R: SavedReplica, W: Wait, O: Out>(
     requires noted { IsNoted R.SavedReplica.saving turn.replica writer.noted }
     requires shown { EqualsPrefix (published writer.inner)
         (replica_history R.SavedReplica.saving turn.replica writer.noted) }
+    requires held { EqualsPrefix (published writer.inner) writer.noted }
     requires domain { (R.SavedReplica.saving.owner turn.replica).domain ≡ B.domain }
     ensures taker { result.taker ≡ turn.taker }
     ensures replica { MayForget R.SavedReplica.saving turn.replica result.replica }
@@ -131,6 +132,7 @@ fn end_unsaved<B: BoardName, R: SavedReplica, W: Wait>(
     requires noted { IsNoted R.SavedReplica.saving turn.replica writer.noted }
     requires shown { EqualsPrefix (published writer.inner)
         (replica_history R.SavedReplica.saving turn.replica writer.noted) }
+    requires held { EqualsPrefix (published writer.inner) writer.noted }
     requires domain { (R.SavedReplica.saving.owner turn.replica).domain ≡ B.domain }
     ensures taker { result.taker ≡ turn.taker }
     ensures replica { result.replica ≡ turn.replica }

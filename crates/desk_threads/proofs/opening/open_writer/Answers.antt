@@ -1,6 +1,7 @@
 use Rattle.std.proofs.Common.{◌≡◌, ◌≢◌, ◌∙◌, MatchBool, ap, refl, subst}
 use Rattle.desk_log.specs.SavedValue.{SavedValue, committed_entries}
 use Rattle.desk_published.specs.Writer.{EqualsPrefix, published}
+use Rattle.desk_published.proofs.PrefixEquations.{is_front}
 use Rattle.desk_threads.proofs.PublishedPrefixes.{shown_front, nothing_front}
 use Rattle.desk_threads.proofs.opening.open_writer.Goals as goal
 
@@ -24,3 +25,7 @@ returns-then-whole-clause-shown g c =
 pub publish-writer-requires : goal.publish-writer-requires
 publish-writer-requires g c =
     nothing_front _ (committed_entries c.saved.result.now) c.in_ok-writer.ensures.noted
+
+pub returns-then-whole-clause-held : goal.returns-then-whole-clause-held
+returns-then-whole-clause-held g c =
+    is_front (published c.publish-writer.result.0.inner) c.publish-writer.result.0.noted c.publish-writer.ensures.held

@@ -101,3 +101,6 @@ returns-clause-whole g c = λ _.
     let shown = published c.publish_after.result.0.inner in
     subst (λ (w : List Entry). MatchBool c.publish_after.result.1 (shown ≡ w) (shown ≢ w)) (n.1 ∙ p.1)
     (c.publish_after.ensures.whole refl)
+
+pub returns-then-not-wanted-clause-held : goal.returns-then-not-wanted-clause-held
+returns-then-not-wanted-clause-held g c = is_prefix (published c.args.writer.inner) c.args.writer.noted c.requires.held

@@ -118,3 +118,6 @@ returns-clause-shown g c =
     subst (λ (w : List Entry). IsPrefix shown w) f.1
     (reported_within s c.args.replica.now c.past_len.result list noted now shown c.past_len.ensures
     c.reported.ensures p.1 c.publish_after-writer.ensures.published)
+
+pub returns-then-count-eq0-clause-held : goal.returns-then-count-eq0-clause-held
+returns-then-count-eq0-clause-held g c = is_prefix (published c.args.writer.inner) c.args.writer.noted c.requires.held

@@ -1,14 +1,18 @@
 use Rattle.std.proofs.Common.{◌∙◌, ap, refl}
 use Rattle.desk_types.specs.declared.owner.Owner.{Owner}
 use Rattle.desk_published.proofs.PrefixEquations.{is_front}
-use Rattle.desk_threads.proofs.Histories.{forget_owner, forget_saved}
+use Rattle.desk_threads.proofs.Histories.{AdvanceLaws, forget_owner, forget_saved}
 use Rattle.desk_threads.proofs.PublishedPrefixes.{where_true, where_false}
 use Rattle.desk_threads.proofs.shared_save.end_saved.Goals as goal
 
 pub invariant_of-result : goal.invariant_of-result
 invariant_of-result g c =
     let s = g.R.SavedReplica.saving in
-    let forgotten = g.met.R.SavedReplica.forgotten_on in
+    let laws : AdvanceLaws s = record {
+      forgotten = g.met.R.SavedReplica.forgotten_on;
+      begun = g.met.R.SavedReplica.begun_on;
+      prepared = g.met.R.SavedReplica.prepared_on;
+    } in
     let p = c.publish_committed-writer.ensures in
     let replica = c.publish_committed-writer.new.replica in
     record {
@@ -16,10 +20,11 @@ invariant_of-result g c =
       past_is = p.noted.past_is;
       next = p.noted.next;
       noted = p.noted.begins;
+      held = is_front _ _ p.held;
       shown = is_front _ _ p.shown;
-      domain_is = ap (λ (o : Owner). o.domain) (forget_owner s forgotten c.args.turn.replica replica p.forgets)
+      domain_is = ap (λ (o : Owner). o.domain) (forget_owner s laws c.args.turn.replica replica p.forgets)
           ∙ c.requires.domain;
-      last = λ goes. forget_saved s forgotten c.args.turn.replica replica p.forgets c.requires.last;
+      last = λ goes. forget_saved s laws c.args.turn.replica replica p.forgets c.requires.last;
       whole = λ goes. where_true _ _ _ (p.whole refl);
       partial = λ goes. where_false _ _ _ (p.whole refl);
     }

@@ -1,8 +1,8 @@
 use Rattle.std.proofs.Common.{rules, refl, ◌∙◌}
-use Rattle.desk_mailbox.specs.Ends.{taken_by}
 use Rattle.desk_published.specs.Writer.{published}
 use Rattle.desk_threads.proofs.KeeperRuns.{on_ok, if_ok, on_err, if_err, stays_then, stays_same}
-use Rattle.desk_threads.proofs.KeeperTurns.{turns_none, turns_then, turns_to_end, end_ran, end_run_out}
+use Rattle.desk_threads.proofs.KeeperTurns.{turns_none, turns_then, turns_to_end, turns_to_turn, end_ran}
+use Rattle.desk_threads.proofs.KeeperTurns.{end_run_out}
 use Rattle.desk_threads.specs.Runs.{stand}
 use Rattle.desk_threads.proofs.keeper.Keeper.run_turns.Goals as goal
 
@@ -56,13 +56,11 @@ returns-in-Ok-false-clause-saved g c = λ works.
     (s.0, stays_then g.R.SavedReplica.saving _ _ _ g.met.R.SavedReplica.keeps_further r.1 s.1)
 
 pub returns-in-Err-clause-failed : goal.returns-in-Err-clause-failed
-returns-in-Err-clause-failed g c = (
-  taken_by c.loop.keeper.taker,
-  stand c.loop.keeper.replica c.loop.keeper.waiting (published c.loop.keeper.writer.inner)
-      c.loop.keeper.all_published c.loop.out,
-  c.loop.invariant.0,
-  if_err c.turn-back.result.1 _ _ c.in-Err.is c.turn-back.ensures.failed,
-)
+returns-in-Err-clause-failed g c =
+    turns_to_turn g.O.Out g.R.Replica g.R.SavedReplica.saving _ _ _ _ _ _
+    (stand c.loop.keeper.replica c.loop.keeper.waiting (published c.loop.keeper.writer.inner)
+    c.loop.keeper.all_published c.loop.out)
+    _ c.loop.invariant.0 (if_err c.turn-back.result.1 _ _ c.in-Err.is c.turn-back.ensures.failed)
 
 pub returns-in-Err-clause-first : goal.returns-in-Err-clause-first
 returns-in-Err-clause-first g c = λ works.

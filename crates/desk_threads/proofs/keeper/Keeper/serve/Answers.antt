@@ -9,7 +9,7 @@ use Rattle.desk_replica.specs.declared.answer.Answer.{Answer}
 use Rattle.desk_replica.specs.EpochPackets.{packets_of_step}
 use Rattle.desk_threads.specs.ItemAnswers.{waiting_on}
 use Rattle.desk_threads.specs.SavedItems.{DoesAndForgets, DoesAndFails, RefusesAndForgets}
-use Rattle.desk_threads.proofs.Histories.{noted_on, front_on, forget_owner, forget_saved, forget_stays}
+use Rattle.desk_threads.proofs.Histories.{AdvanceLaws, noted_on, front_on, forget_owner, forget_saved, forget_stays}
 use Rattle.desk_threads.proofs.PublishedPrefixes.{where_true, where_false}
 use Rattle.desk_threads.proofs.StoredAnswers.{stored_ok, stored_err, stored_after, no_less}
 use Rattle.desk_threads.proofs.ReportedAnswers.{reported_done, reported_waiting, reported_stopped, once_stopped}
@@ -42,7 +42,11 @@ publish_committed-writer-requires-clause-shown g c =
 pub invariant_of-keeper : goal.invariant_of-keeper
 invariant_of-keeper g c =
     let s = g.R.SavedReplica.saving in
-    let forgotten = g.met.R.SavedReplica.forgotten_on in
+    let laws : AdvanceLaws s = record {
+      forgotten = g.met.R.SavedReplica.forgotten_on;
+      begun = g.met.R.SavedReplica.begun_on;
+      prepared = g.met.R.SavedReplica.prepared_on;
+    } in
     let done = c.act_and_save-outcome.ensures in
     let saved = c.act_and_save-outcome.new.replica in
     let replica = c.publish_committed-writer.new.replica in
@@ -54,10 +58,11 @@ invariant_of-keeper g c =
       past_is = p.noted.past_is;
       next = p.noted.next;
       noted = p.noted.begins;
+      held = is_front _ _ p.held;
       shown = is_front _ _ p.shown;
-      domain_is = ap (λ (o : Owner). o.domain) (forget_owner s forgotten saved replica p.forgets ∙ done.same.owner)
+      domain_is = ap (λ (o : Owner). o.domain) (forget_owner s laws saved replica p.forgets ∙ done.same.owner)
           ∙ c.args.self.domain_is;
-      last = λ goes. forget_saved s forgotten saved replica p.forgets (done.saved (stored goes)).0;
+      last = λ goes. forget_saved s laws saved replica p.forgets (done.saved (stored goes)).0;
       whole = λ goes. where_true _ _ _ (p.whole (no_less c.goes_on_after-goes_on.result goes));
       partial = λ goes. where_false _ _ _ (p.whole (no_less c.goes_on_after-goes_on.result goes));
     }
@@ -71,8 +76,13 @@ returns-clause-same g c = (
 
 pub returns-clause-saved : goal.returns-clause-saved
 returns-clause-saved g c =
+    let laws : AdvanceLaws g.R.SavedReplica.saving = record {
+      forgotten = g.met.R.SavedReplica.forgotten_on;
+      begun = g.met.R.SavedReplica.begun_on;
+      prepared = g.met.R.SavedReplica.prepared_on;
+    } in
     let then = forget_stays g.R.SavedReplica.saving g.met.R.SavedReplica.keeps_further
-    (λ r. g.met.R.SavedReplica.followed_keeps r r (g.met.R.Replica.follows_still r)) g.met.R.SavedReplica.forgotten_on
+    (λ r. g.met.R.SavedReplica.followed_keeps r r (g.met.R.Replica.follows_still r)) laws
     c.args.self.replica c.act_and_save-outcome.new.replica c.publish_committed-writer.new.replica
     c.publish_committed-writer.ensures.forgets in
     elim c.match-outcome.branch [
