@@ -12,20 +12,21 @@ use Rattle.desk_world.specs.Group.{IsNode}
 use Rattle.desk_world.specs.World.{first_state, first_world, node_of_world}
 use Rattle.desk_world.specs.declared.world_event.WorldEvent.TheVariants.{Request}
 use Rattle.desk_world.proofs.Packets.{Contains-here, Contains-there, Contains-none}
-use Rattle.desk_epochs.specs.Epochs.{Epochs, first_epochs, joined_logs}
+use Rattle.desk_epochs.specs.Epochs.{Epochs, first_epochs}
 use Rattle.desk_epochs.proofs.Epochs.{leads_on}
 use Rattle.desk_epoch_node.specs.declared.event.EpochEvent.TheVariants as comes
 use Rattle.desk_epoch_node.specs.EpochValue.{committed_cut, standing_of}
 use Rattle.desk_epoch_node.specs.PastRows.{StandFor}
 use Rattle.desk_epoch_group.specs.Agreement.{ending_after}
 use Rattle.desk_epoch_group.specs.Group.{EpochNodes, EpochAct, Meets, Begins, BeginsAndEnds, MeetsAndEnds}
+use Rattle.desk_epoch_group.specs.Group.{StartsAgain}
 use Rattle.desk_epoch_group.specs.Group.{ActLeads, ActsLead}
 use Rattle.desk_epoch_group.specs.Group.{first_epoch_nodes}
 use Rattle.desk_epoch_group.proofs.Leads.{epoch_world}
 use Rattle.desk_epoch_group.proofs.Standing.{GroupStands, GoesOn}
 use Rattle.desk_epoch_group.proofs.Begun.{begun_goes_on, again_goes_on, due_next}
 use Rattle.desk_epoch_group.proofs.Meeting.{meets_goes_on}
-use Rattle.desk_epoch_group.proofs.StartedAgain.{meets_again}
+use Rattle.desk_epoch_group.proofs.StartedAgain.{meets_again, starts_goes_on}
 
 act_goes_on : (domain : List ℕ) (n most : ℕ) (Came : Entry → Type 0) (old new : EpochNodes) (d : Epochs)
     (act : EpochAct) → IsGroupSize n → ((i : ℕ) (e : Entry) → act ≡ Meets i (comes.Request e) → Came e) →
@@ -33,16 +34,18 @@ act_goes_on : (domain : List ℕ) (n most : ℕ) (Came : Entry → Type 0) (old 
 act_goes_on domain n most Came old new d (Meets i event) size may g (value, step, sent, does, b) =
     meets_goes_on domain n most Came i old new d (standing_of (old.values i)) event value step size
     (λ e same. may i e (ap (λ x. Meets i x) same)) g sent
-    (does (joined_logs (old.logs i)) (g.nodes i).stand) b
+    does b
 act_goes_on domain n most Came old new d (Begins i) size may g (value, packets, due, b) =
     begun_goes_on domain n most Came i old new d (committed_cut (old.values i)) value packets size g
-    (due.begins (joined_logs (old.logs i)) (g.nodes i).stand) (due_next domain n most Came i old d g due.due) b
+    due.begins (due_next domain n most Came i old d g due.due) b
 act_goes_on domain n most Came old new d (BeginsAndEnds i) size may g (value, packets, due, b) =
     again_goes_on domain n most Came i old new d (committed_cut (old.values i)) value packets size g
-    (due.begins (joined_logs (old.logs i)) (g.nodes i).stand) (due_next domain n most Came i old d g due.due) b
+    due.begins (due_next domain n most Came i old d g due.due) b
 act_goes_on domain n most Came old new d (MeetsAndEnds i event) size may g (value, step, sent, does, begun, b) =
     meets_again domain n most Came i old new d (standing_of (old.values i)) event value step size g sent
-    (does (joined_logs (old.logs i)) (g.nodes i).stand) begun b
+    does begun b
+act_goes_on domain n most Came old new d (StartsAgain i) size may g (value, starts, b) =
+    starts_goes_on domain n most Came i old new d value size g starts b
 
 pub run_goes_on : (domain : List ℕ) (n most : ℕ) (Came : Entry → Type 0) (old new : EpochNodes) (d : Epochs)
     (acts : List EpochAct) → IsGroupSize n → ((i : ℕ) (e : Entry) → Contains acts (Meets i (comes.Request e)) →

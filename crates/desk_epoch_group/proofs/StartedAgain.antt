@@ -1,9 +1,10 @@
--- What happens to nodes over epochs that begin one and are started again there, as steps of a desk over epochs.
+-- What happens to nodes over epochs that are started again, as steps of a desk over epochs.
 use Rattle.std.proofs.Common.{◌≡◌, ℕ, Bool, true, false, cond}
-use Rattle.std.proofs.Common.{List, [], drop, refl, sym}
+use Rattle.std.proofs.Common.{List, [], drop, length, refl, sym, ap}
 use Rattle.std.proofs.Common.{◌∙◌}
 use Rattle.std.proofs.Common.{subst, eqb, ltb}
 use Rattle.std.proofs.lemmas.Bool.{eqb-true}
+use Rattle.std.proofs.lemmas.List.{append-nil}
 use Rattle.desk_types.specs.Group.{IsGroupSize}
 use Rattle.desk_types.specs.declared.command.Entry.{Entry}
 use Rattle.desk_types.specs.declared.packet.Message.{Message}
@@ -12,7 +13,12 @@ use Rattle.desk_types.specs.declared.packet.Message.TheVariants.{DoViewChange, S
 use Rattle.desk_types.specs.Packet.{sender}
 use Rattle.desk_node.specs.declared.event.Event.{Event}
 use Rattle.desk_node.specs.declared.event.Event.TheVariants as events
-use Rattle.desk_epochs.specs.Epochs.{Epochs, joined_logs}
+use Rattle.desk_node.specs.Heard.{silence}
+use Rattle.desk_node.specs.NodeValue.{NodeValue, node_from}
+use Rattle.desk_node.specs.Rules.{node_step}
+use Rattle.desk_node.specs.State.{State}
+use Rattle.desk_world.specs.Group.{IsNode}
+use Rattle.desk_epochs.specs.Epochs.{Epochs, joined_logs, epoch_of}
 use Rattle.desk_epoch_node.specs.declared.deed.Deed.{Deed}
 use Rattle.desk_epoch_node.specs.declared.deed.Deed.TheVariants.{Ignore, Own, Answer, Refuse, Keep, Ask, AskAll, Tell}
 use Rattle.desk_epoch_node.specs.declared.deed.Deed.TheVariants.{Take, Stop}
@@ -30,11 +36,12 @@ use Rattle.desk_epoch_node.specs.Does.{whole_log}
 use Rattle.desk_epoch_node.specs.declared.standing.Standing.{Standing}
 use Rattle.desk_epoch_node.specs.declared.standing.Standing.TheVariants.{Acts, Awaits, Replaced}
 use Rattle.desk_epoch_node.specs.EpochValue.{EpochValue}
-use Rattle.desk_epoch_group.specs.Group.{EpochNodes, BeginsByStep}
+use Rattle.desk_epoch_group.specs.Group.{EpochNodes, BeginsByStep, StartsInEpoch}
 use Rattle.desk_epoch_group.specs.Group.{NodeBecomes, WasSentBefore}
 use Rattle.desk_epoch_group.specs.Group.{logs_after, started_again}
-use Rattle.desk_epoch_group.proofs.Standing.{TellsPast, PacketStands, GroupStands, GoesOn}
-use Rattle.desk_epoch_group.proofs.Begun.{again_goes_on}
+use Rattle.desk_epoch_group.proofs.Leads.{leads_restart}
+use Rattle.desk_epoch_group.proofs.Standing.{TellsPast, PacketStands, GroupStands, GoesOn, becomes, leads_change}
+use Rattle.desk_epoch_group.proofs.Begun.{again_goes_on, no_packets}
 use Rattle.desk_epoch_group.proofs.Meeting.{IsAsked, reported_next, request_asked, whole_is}
 
 -- A node that is told the whole log of its epoch begins the next, but ends there before it has saved anything.
@@ -275,3 +282,34 @@ meets_again domain n most Came i old new d Awaits event value step size g sent d
 meets_again domain n most Came i old new d Replaced event value step size g sent does begun b =
     absurd (not_begun (joined_logs (old.logs i)) (replaced_deed event) (old.values i) value step
     (replaced_no_take event) does begun)
+
+-- A node that is started again in its epoch is the world's node that is restarted.
+starts_is_node : (domain : List ℕ) (n i : ℕ) (old new : NodeValue) (s : State) → IsNode domain n i old s →
+    new ≡ node_from (record { id = old.id; n = old.n; domain = old.domain }) old.saved →
+    IsNode domain n i new (node_step domain i n s events.Restart).node
+unfolding node_step
+starts_is_node domain n i old new s is same =
+    subst (λ (x : NodeValue). IsNode domain n i x (node_step domain i n s events.Restart).node) (sym same)
+    (record {
+      domain_is = is.domain_is;
+      id_is = is.id_is;
+      n_is = is.n_is;
+      saved_is = is.saved_is;
+      says = record { none_past = tt; heard_is = ap silence is.n_is };
+    })
+
+pub starts_goes_on : (domain : List ℕ) (n most : ℕ) (Came : Entry → Type 0) (i : ℕ) (old new : EpochNodes) (d : Epochs)
+    (value : EpochValue) → IsGroupSize n → GroupStands domain n most Came old d →
+    StartsInEpoch (joined_logs (old.logs i)) (old.values i) value → NodeBecomes n i old value (old.logs i) [] new →
+    GoesOn domain n most Came d new
+starts_goes_on domain n most Came i old new d value size g starts b =
+    let a = g.nodes i in
+    let epoch : ℕ = (old.values i).epoch in
+    let at : epoch ≡ epoch_of d i = a.epoch_is ∙ ap (λ (ls : List (List Entry)). length ls) (sym a.pasts_are) in
+    let c =
+    leads_change domain n most Came i epoch d _ _ (leads_restart domain n most Came i epoch d size.0 b.is_node at) in
+    becomes domain n most Came i epoch old new d value (old.logs i) [] _ _ [] g b starts.epoch_is c
+    (sym (append-nil (old.logs i)))
+    (starts_is_node domain n i (old.values i).node value.node _ a.node starts.node_is)
+    (starts.epoch_is ∙ a.epoch_is) (starts.most_is ∙ a.most_is) starts.past_is a.fresh
+    (λ to p x. no_packets domain n c.later to p x)

@@ -6,6 +6,7 @@ use Rattle.desk_types.specs.declared.packet.Message.{Message}
 use Rattle.desk_types.specs.EpochPackets.{packet_under}
 use Rattle.desk_log.specs.SavedValue.{initial_saved}
 use Rattle.desk_node.specs.Heard.{silence}
+use Rattle.desk_node.specs.NodeValue.{node_from}
 use Rattle.desk_epochs.specs.Epochs.{joined_logs}
 use Rattle.desk_epoch_node.specs.declared.event.EpochEvent.{EpochEvent}
 use Rattle.desk_epoch_node.specs.declared.event.EpochEvent.TheVariants as comes
@@ -26,12 +27,14 @@ pub record EpochNodes : Type 0 where
   pub sent : List (ℕ × EpochPacket)
 
 -- What happens: something comes to a node; a node begins the next epoch where it is due; or it begins it in one of
--- these ways, but ends before it has saved or sent anything there, and is started again.
+-- these ways, but ends before it has saved or sent anything there, and is started again; or it ends at any other
+-- moment, and is started again in its epoch.
 pub data EpochAct : Type 0 where
   Meets : ℕ → EpochEvent → EpochAct
   Begins : ℕ → EpochAct
   BeginsAndEnds : ℕ → EpochAct
   MeetsAndEnds : ℕ → EpochEvent → EpochAct
+  StartsAgain : ℕ → EpochAct
 
 -- node i of n at first, where epochs end after so many entries: its token is 0
 abbrev pub first_value : List ℕ → ℕ → ℕ → ℕ → EpochValue
@@ -103,20 +106,19 @@ logs_after logs (steps.Tell to epoch base) = logs
 logs_after logs steps.Replaced = logs
 logs_after logs (steps.Began log packets) = logs ++ log ∷ []
 
--- what `EpochNode::step` promises
-abbrev pub MakesEpochStep : EpochValue → EpochEvent → EpochValue → EpochStep → Type 0
-MakesEpochStep old event new step = (past : List Entry) → StandFor past old.past →
-    DoesDeed past (deed past old event) old new step
+-- what `EpochNode::step` promises of a node whose past logs are these entries
+abbrev pub MakesEpochStep : List Entry → EpochValue → EpochEvent → EpochValue → EpochStep → Type 0
+MakesEpochStep past old event new step = DoesDeed past (deed past old event) old new step
 
 -- By the step the node begins the next epoch.
 abbrev pub BeginsByStep : EpochStep → Type 0
 BeginsByStep (steps.Began log packets) = Unit {0}
 BeginsByStep step = ⊥
 
--- what `EpochNode::begin_next` promises, where it begins an epoch
-pub record BeginsWhereDue (old new : EpochValue) (packets : List (ℕ × Message)) : Type 0 where
+-- what `EpochNode::begin_next` promises of a node whose past logs are these entries, where it begins an epoch
+pub record BeginsWhereDue (past : List Entry) (old new : EpochValue) (packets : List (ℕ × Message)) : Type 0 where
   pub due : is_due old ≡ true
-  pub begins : (past : List Entry) → StandFor past old.past → BeginsAfter past (committed_cut old) old new packets
+  pub begins : BeginsAfter past (committed_cut old) old new packets
 
 -- the node that is started again in an epoch of which it has saved nothing
 abbrev pub started_again : EpochValue → EpochValue
@@ -127,6 +129,17 @@ started_again e = record {
   token = e.token;
   node = node_in_view e.node.domain e.node.id e.node.n 0;
 }
+
+-- The node is started again in its epoch: it goes on from the state that it saved last, has heard nothing since, and
+-- keeps of these past logs what it read anew.
+pub record StartsInEpoch (past : List Entry) (old new : EpochValue) : Type 0 where
+  pub epoch_is : new.epoch ≡ old.epoch
+  pub past_is : StandFor past new.past
+  pub most_is : new.most ≡ old.most
+  pub token_is : new.token ≡ old.token
+  pub node_is :
+      new.node
+      ≡ node_from (record { id = old.node.id; n = old.node.n; domain = old.node.domain }) old.node.saved
 
 -- Node i is this one now, with these past logs, and has sent these packets. No other node has changed.
 pub record NodeBecomes (n i : ℕ) (old : EpochNodes) (value : EpochValue) (logs : List (List Entry))
@@ -142,19 +155,24 @@ pub record NodeBecomes (n i : ℕ) (old : EpochNodes) (value : EpochValue) (logs
 abbrev pub ActLeads : ℕ → EpochNodes → EpochAct → EpochNodes → Type 0
 ActLeads n old (Meets i event) new =
     (value : EpochValue) × (step : EpochStep) × WasSentBefore old.sent i event
-    × MakesEpochStep (old.values i) event value step
+    × MakesEpochStep (joined_logs (old.logs i)) (old.values i) event value step
     × NodeBecomes n i old value (logs_after (old.logs i) step) (epoch_packets_of (old.values i) (old.logs i) step) new
 ActLeads n old (Begins i) new =
-    (value : EpochValue) × (packets : List (ℕ × Message)) × BeginsWhereDue (old.values i) value packets
+    (value : EpochValue) × (packets : List (ℕ × Message)) × BeginsWhereDue (joined_logs (old.logs i)) (old.values i)
+    value packets
     × NodeBecomes n i old value (old.logs i ++ committed_cut (old.values i) ∷ [])
     (map (in_epoch ((old.values i).epoch + 1)) packets) new
 ActLeads n old (BeginsAndEnds i) new =
-    (value : EpochValue) × (packets : List (ℕ × Message)) × BeginsWhereDue (old.values i) value packets
+    (value : EpochValue) × (packets : List (ℕ × Message)) × BeginsWhereDue (joined_logs (old.logs i)) (old.values i)
+    value packets
     × NodeBecomes n i old (started_again value) (old.logs i ++ committed_cut (old.values i) ∷ []) [] new
 ActLeads n old (MeetsAndEnds i event) new =
     (value : EpochValue) × (step : EpochStep) × WasSentBefore old.sent i event
-    × MakesEpochStep (old.values i) event value step × BeginsByStep step
+    × MakesEpochStep (joined_logs (old.logs i)) (old.values i) event value step × BeginsByStep step
     × NodeBecomes n i old (started_again value) (logs_after (old.logs i) step) [] new
+ActLeads n old (StartsAgain i) new =
+    (value : EpochValue) × StartsInEpoch (joined_logs (old.logs i)) (old.values i) value
+    × NodeBecomes n i old value (old.logs i) [] new
 
 -- So do acts, one after the other.
 abbrev pub ActsLead : ℕ → EpochNodes → List EpochAct → EpochNodes → Type 0

@@ -4,3 +4,4 @@ pub mod SavedFronts
 pub mod UntakenLogs
 pub mod ReplicaSteps
 pub mod DeferringSteps
+pub mod Preparations

@@ -1,16 +1,17 @@
 -- A replica over epochs as what a keeper does its items to and saves.
-use Rattle.std.specs.Prelude.{◌≡◌, ◌≤◌, ◌+◌, ◌-◌, ◌++◌, ℕ, Bool, true, false, if◌then◌else◌, List, [], ◌∷◌, length}
+use Rattle.std.specs.Prelude.{◌≡◌, ◌⊎◌, ◌≤◌, ◌+◌, ◌-◌, ◌++◌, ℕ, Bool, true, false, if◌then◌else◌, List, [], ◌∷◌, length}
 use Rattle.std.specs.Prelude.{Option, Some, None}
-use Rattle.std.proofs.Common.{refl, ap, ◌∙◌, sym, subst, append-nil, append_assoc, length-append, arith, inl, inr}
+use Rattle.std.proofs.Common.{refl, ap, ◌∙◌, sym, subst, append-nil, length-append, arith, inl, inr}
 use Rattle.std.proofs.Props.{props}
 use mathlib.Core.List.{IsPrefix}
 use Rattle.desk_types.specs.declared.command.Entry.{Entry}
-use Rattle.desk_types.specs.declared.owner.Owner.{Owner}
+use Rattle.desk_types.specs.declared.epoch_packet.EpochPacket.{EpochPacket}
 use Rattle.desk_log.specs.Entries.{IsLogPrefix}
 use Rattle.desk_log.specs.SavedValue.{SavedValue, committed_entries}
 use Rattle.desk_log.specs.declared.state_store.StateStore.{Ghosts}
 use Rattle.desk_log.proofs.Prefixes.{prefix_append, prefix_trans}
 use Rattle.desk_node.specs.NodeValue.{NodeValue, IsSameNode}
+use Rattle.desk_replica.specs.Owners.{owner_of_node}
 use Rattle.desk_replica.specs.Saving.{Saving, LogsGoOn, ForgetsReported, entries_or}
 use Rattle.desk_epochs.proofs.Histories.{cut_prefix}
 use Rattle.desk_epochs.proofs.RisingHistories.{cut_is_prefix}
@@ -18,14 +19,17 @@ use Rattle.desk_epoch_node.specs.Ends.{cut_of}
 use Rattle.desk_epoch_node.specs.EpochValue.{EpochValue, committed_cut}
 use Rattle.desk_epoch_node.specs.PastRows.{PastValue, StandFor}
 use Rattle.desk_epoch_node.specs.Replacements.{ends_epoch}
-use Rattle.desk_epoch_stores.specs.EpochEnds.{reported_saved}
 use Rattle.desk_epoch_replica.specs.declared.deferring_replica.DeferringReplica.{DeferringReplica}
 use Rattle.desk_epoch_replica.specs.Deferring.{DeferringFollows, DeferringRefuses, RunsOn}
-use Rattle.desk_epoch_replica.specs.Follows.{BeginsReplica, ReplicaFollows, ReplicaRefuses, StaysInEpoch, StaysReplica}
+use Rattle.desk_epoch_replica.specs.Follows.{ReplicaFollows, StaysInEpoch}
 use Rattle.desk_epoch_replica.specs.InOrder.{after_past, replica_still, replica_further}
-use Rattle.desk_epoch_replica.specs.MemberValue.{MemberValue, member_refused_once}
-use Rattle.desk_epoch_replica.specs.ReplicaValue.{HasSameStores, ReplicaValue, with_stores}
-use Rattle.desk_epoch_replica.specs.Saves.{FailsToSaveReplica, IsSavedReplica, SavesReplica, StoreFollows, replica_cut}
+use Rattle.desk_epoch_replica.specs.MemberValue.{MemberValue}
+use Rattle.desk_epoch_replica.specs.declared.replica_step.ReplicaStep.{ReplicaStep}
+use Rattle.desk_epoch_replica.specs.Outgoing.{step_packets}
+use Rattle.desk_epoch_replica.specs.ReplicaValue.{ReplicaValue, with_stores}
+use Rattle.desk_epoch_replica.specs.Saves.{FailsToBegin, FailsToPrepare, FailsToSaveReplica, IsPrepared}
+use Rattle.desk_epoch_replica.specs.Saves.{IsSavedReplica, PreparesReplica, ReplicaBegins, SavesReplica, StoreFollows}
+use Rattle.desk_epoch_replica.specs.Saves.{may_begin, replica_cut}
 
 -- the log that another node reported, as long as not all of it is published; else no entries
 abbrev pub log_of_state : Option SavedValue → List Entry
@@ -46,10 +50,6 @@ base_of r = r.member.node.past.length - length (reported_of r)
 -- how many epochs have a state that was saved
 abbrev pub saved_epochs : {T S : Type 0} → ReplicaValue T S → ℕ
 saved_epochs r = if r.unsaved then r.member.node.epoch else r.member.node.epoch + 1
-
--- whose replica it is
-abbrev pub node_owner : NodeValue → Owner
-node_owner k = record { id = k.id; n = k.n; domain = k.domain }
 
 -- The replica's state is the one that was saved last, and what was reported is one of its past logs.
 abbrev pub IsSavedDeferring : {T S : Type 0} → Ghosts S → DeferringReplica T S → Type 0
@@ -88,6 +88,28 @@ pub record ForgetsLog {T S : Type 0} (old new : DeferringReplica T S) : Type 0 w
   pub past : IsInPast old.replica
   pub deferred : new.deferred ≡ old.deferred
 
+-- The replica began the next epoch, for which these packets go out, and the same requests are held.
+pub record BeginsDeferring {T S : Type 0} (g : Ghosts S) (old : DeferringReplica T S)
+    (packets : List (ℕ × EpochPacket)) (new : DeferringReplica T S) : Type 0
+  where
+    pub step : ReplicaStep
+    pub begins : ReplicaBegins g old.replica step new.replica
+    pub packets_are : packets ≡ step_packets step
+    pub deferred_are : new.deferred ≡ old.deferred
+
+-- The replica may have opened the next store, and the same requests are held.
+abbrev pub PreparesDeferring : {T S : Type 0} → (T → ℕ → SavedValue → Type 0) → DeferringReplica T S →
+    DeferringReplica T S → Type 0
+PreparesDeferring may_hold old new =
+    PreparesReplica may_hold old.replica new.replica × (new.deferred ≡ old.deferred)
+
+-- The replica could not begin the next epoch, or not prepare a beginning, and the same requests are held.
+abbrev pub StopsDeferring : {T S : Type 0} → (T → ℕ → SavedValue → Type 0) → DeferringReplica T S →
+    DeferringReplica T S → Type 0
+StopsDeferring may_hold old new =
+    (FailsToBegin old.replica new.replica ⊎ FailsToPrepare may_hold old.replica new.replica)
+    × (new.deferred ≡ old.deferred)
+
 pub stands_before_prop : {T S : Type 0} (r : DeferringReplica T S) (past : List Entry) →
     IsProp (StandFor (past ++ reported_of r.replica) r.replica.member.node.past)
 stands_before_prop r past = Prim.hlevel props
@@ -96,9 +118,10 @@ pub IsSavedDeferring-prop : {T S : Type 0} (g : Ghosts S) (r : DeferringReplica 
 IsSavedDeferring-prop g r = Prim.hlevel props
 
 -- A replica's state, its logs, and what its stores make of them.
-abbrev pub deferring_saving : {T S : Type 0} → Ghosts S → Saving (DeferringReplica T S)
-deferring_saving g = record {
-  owner = λ r. node_owner r.replica.member.node.node;
+abbrev pub deferring_saving : {T S : Type 0} → (T → ℕ → SavedValue → Type 0) → Ghosts S →
+    Saving (DeferringReplica T S)
+deferring_saving may_hold g = record {
+  owner = λ r. owner_of_node r.replica.member.node.node;
   stands = λ r past. StandFor (past ++ reported_of r.replica) r.replica.member.node.past;
   base = λ r. base_of r.replica;
   reported = λ r. reported_of r.replica;
@@ -108,6 +131,11 @@ deferring_saving g = record {
   fails = FailsToSaveDeferring g;
   keeps = λ old new. KeepsStore g.keeps old.replica new.replica;
   forgets = ForgetsLog;
+  may_begin = λ r. may_begin r.replica;
+  begins = BeginsDeferring g;
+  prepares = PreparesDeferring may_hold;
+  is_ready = λ r. IsPrepared r.replica;
+  stops = StopsDeferring may_hold;
   stands_prop = stands_before_prop;
   saved_prop = IsSavedDeferring-prop g;
 }
@@ -165,7 +193,7 @@ pub deferring_saved_last : {T S : Type 0} (g : Ghosts S) (old new : DeferringRep
     IsSavedDeferring g new
 deferring_saved_last g old new saves = (saves.0.saved, saves.1)
 
-same_base : {T S : Type 0} (old new : ReplicaValue T S) → new.member ≡ old.member → new.reported ≡ old.reported →
+pub same_base : {T S : Type 0} (old new : ReplicaValue T S) → new.member ≡ old.member → new.reported ≡ old.reported →
     base_of new ≡ base_of old
 same_base old new m r =
     ap (λ (k : MemberValue). k.node.past.length - length (reported_of new)) m
@@ -180,7 +208,7 @@ deferring_saved_same g old new saves = (
   ap (λ (k : MemberValue). committed_cut k.node) saves.0.member_is,
 )
 
-same_in_past : {T S : Type 0} (old new : ReplicaValue T S) → new.member.node.past ≡ old.member.node.past →
+pub same_in_past : {T S : Type 0} (old new : ReplicaValue T S) → new.member.node.past ≡ old.member.node.past →
     new.reported ≡ old.reported → IsInPast old → IsInPast new
 same_in_past old new p r is =
     subst (λ (k : PastValue). length (reported_of new) ≤ k.length) (sym p)
@@ -199,14 +227,14 @@ deferring_refused_saved g old new refused is =
       same_in_past old.replica new.replica (ap (λ (k : MemberValue). k.node.past) r.member_is) r.reported_is is.1,
     )
 
-same_owner : (old new : NodeValue) → IsSameNode old new → node_owner new ≡ node_owner old
+same_owner : (old new : NodeValue) → IsSameNode old new → owner_of_node new ≡ owner_of_node old
 same_owner old new same =
     ap (λ (i : ℕ). record { id = i; n = new.n; domain = new.domain }) same.id_is
     ∙ ap (λ (n : ℕ). record { id = old.id; n = n; domain = new.domain }) same.n_is
     ∙ ap (λ (d : List ℕ). record { id = old.id; n = old.n; domain = d }) same.domain_is
 
 owner_on : {T S : Type 0} (old new : ReplicaValue T S) → ReplicaFollows old new →
-    node_owner new.member.node.node ≡ node_owner old.member.node.node
+    owner_of_node new.member.node.node ≡ owner_of_node old.member.node.node
 owner_on old new (same, inl h) = same_owner old.member.node.node new.member.node.node h.node.same
 owner_on old new (same, inr h) = same_owner old.member.node.node new.member.node.node h.node.same
 
@@ -285,7 +313,8 @@ stands_on past old new (same, inr h) stands =
     (h.node.past_is past before)
 
 pub deferring_followed_on : {T S : Type 0} (may_hold : T → ℕ → SavedValue → Type 0) (g : Ghosts S)
-    (old new : DeferringReplica T S) → DeferringFollows may_hold old new → LogsGoOn (deferring_saving g) old new
+    (old new : DeferringReplica T S) → DeferringFollows may_hold old new →
+    LogsGoOn (deferring_saving may_hold g) old new
 deferring_followed_on {T} {S} may_hold g old new follows =
     let before : ReplicaValue T S = with_stores new.replica.stores old.replica in
     let f : ReplicaFollows before new.replica = follows.1 in
@@ -297,14 +326,15 @@ deferring_followed_on {T} {S} may_hold g old new follows =
       stands = λ past stands. stands_on past before new.replica f stands;
     }
 
-same_on : {T S : Type 0} (g : Ghosts S) (old new : DeferringReplica T S) → new.replica.member ≡ old.replica.member →
-    new.replica.reported ≡ old.replica.reported → LogsGoOn (deferring_saving g) old new
-same_on g old new m r =
+same_on : {T S : Type 0} (may_hold : T → ℕ → SavedValue → Type 0) (g : Ghosts S) (old new : DeferringReplica T S) →
+    new.replica.member ≡ old.replica.member → new.replica.reported ≡ old.replica.reported →
+    LogsGoOn (deferring_saving may_hold g) old new
+same_on may_hold g old new m r =
     let cut : replica_cut new.replica ≡ replica_cut old.replica =
     ap (λ (k : MemberValue). committed_cut k.node) m in
     let log : reported_of new.replica ≡ reported_of old.replica = ap log_of_state r in
     record {
-      owner = ap (λ (k : MemberValue). node_owner k.node.node) m;
+      owner = ap (λ (k : MemberValue). owner_of_node k.node.node) m;
       base = same_base old.replica new.replica m r;
       after = subst (λ (xs : List Entry). IsPrefix (reported_of old.replica ++ replica_cut old.replica)
           (xs ++ replica_cut new.replica)) (sym log)
@@ -322,22 +352,22 @@ same_on g old new m r =
           (subst (λ (k : MemberValue). StandFor (past ++ reported_of old.replica) k.node.past) (sym m) stands);
     }
 
-pub deferring_saved_on : {T S : Type 0} (g : Ghosts S) (old new : DeferringReplica T S) → SavesDeferring g old new →
-    LogsGoOn (deferring_saving g) old new
-deferring_saved_on g old new saves = same_on g old new saves.0.member_is saves.0.reported_is
+pub deferring_saved_on : {T S : Type 0} (may_hold : T → ℕ → SavedValue → Type 0) (g : Ghosts S)
+    (old new : DeferringReplica T S) → SavesDeferring g old new → LogsGoOn (deferring_saving may_hold g) old new
+deferring_saved_on may_hold g old new saves = same_on may_hold g old new saves.0.member_is saves.0.reported_is
 
-pub deferring_failed_on : {T S : Type 0} (g : Ghosts S) (old new : DeferringReplica T S) →
-    FailsToSaveDeferring g old new → LogsGoOn (deferring_saving g) old new
-deferring_failed_on g old new fails = same_on g old new fails.0.member_is fails.0.reported_is
+pub deferring_failed_on : {T S : Type 0} (may_hold : T → ℕ → SavedValue → Type 0) (g : Ghosts S)
+    (old new : DeferringReplica T S) → FailsToSaveDeferring g old new → LogsGoOn (deferring_saving may_hold g) old new
+deferring_failed_on may_hold g old new fails = same_on may_hold g old new fails.0.member_is fails.0.reported_is
 
-pub deferring_forgotten_on : {T S : Type 0} (g : Ghosts S) → ((a : S) → g.keeps a a) →
-    (old new : DeferringReplica T S) →
-    ForgetsLog old new → ForgetsReported (deferring_saving g) old new
-deferring_forgotten_on {T} {S} g still old new f =
+pub deferring_forgotten_on : {T S : Type 0} (may_hold : T → ℕ → SavedValue → Type 0) (g : Ghosts S) →
+    ((a : S) → g.keeps a a) → (old new : DeferringReplica T S) → ForgetsLog old new →
+    ForgetsReported (deferring_saving may_hold g) old new
+deferring_forgotten_on {T} {S} may_hold g still old new f =
     let log : List Entry = reported_of old.replica in
     let epoch : ℕ = old.replica.member.node.epoch in
     record {
-      owner = ap (λ (r : ReplicaValue T S). node_owner r.member.node.node) f.replica;
+      owner = ap (λ (r : ReplicaValue T S). owner_of_node r.member.node.node) f.replica;
       base = ap (λ (r : ReplicaValue T S). base_of r) f.replica ∙ omega (arith, f.past);
       reported = ap (λ (r : ReplicaValue T S). reported_of r) f.replica;
       cut = ap (λ (r : ReplicaValue T S). replica_cut r) f.replica;
@@ -354,7 +384,7 @@ deferring_forgotten_on {T} {S} g still old new f =
       );
     }
 
-epochs_within : (unsaved : Bool) (epoch : ℕ) → (if unsaved then epoch else epoch + 1) ≤ epoch + 1
+pub epochs_within : (unsaved : Bool) (epoch : ℕ) → (if unsaved then epoch else epoch + 1) ≤ epoch + 1
 epochs_within true epoch = omega arith
 epochs_within false epoch = omega arith
 

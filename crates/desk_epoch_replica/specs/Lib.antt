@@ -9,3 +9,4 @@ pub mod PastPackets
 pub mod Outgoing
 pub mod Deferring
 pub mod DeferringSaves
+pub mod DeferringBeginnings

@@ -25,6 +25,11 @@ abbrev pub is_node_step : ReplicaStep → Bool
 is_node_step (out.Own epoch base step) = true
 is_node_step step = false
 
+-- whether it is the beginning of an epoch
+abbrev pub is_beginning : ReplicaStep → Bool
+is_beginning (out.Began epoch packets) = true
+is_beginning step = false
+
 -- whether it is a request that is to be asked again in the next epoch
 abbrev pub is_deferred : ReplicaStep → Bool
 is_deferred (out.Answer (answers.Deferred entry)) = true

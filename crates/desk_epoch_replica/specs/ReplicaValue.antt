@@ -1,7 +1,10 @@
 -- A replica over epochs as its callers see it.
-use Rattle.std.specs.Prelude.{◌≡◌, Bool, not, ◌&&◌, Option}
+use Rattle.std.specs.Prelude.{◌≡◌, Bool, true, false, not, ◌&&◌, Option}
 use Rattle.std.specs.Option.{is_some}
 use Rattle.desk_log.specs.SavedValue.{SavedValue}
+use Rattle.desk_epoch_node.specs.EpochValue.{standing_of}
+use Rattle.desk_epoch_node.specs.declared.standing.Standing.{Standing}
+use Rattle.desk_epoch_node.specs.declared.standing.Standing.TheVariants.{Acts, Awaits, Replaced}
 use Rattle.desk_epoch_replica.specs.MemberValue.{MemberValue}
 
 -- A member; what opens the stores of epochs, the store of the member's epoch, and the open one of the next; the state
@@ -18,6 +21,16 @@ pub record ReplicaValue (T S : Type 0) : Type 0 where
 -- whether it takes a log that it is told: the next store is open, and the log before is published
 abbrev pub takes_logs : {T S : Type 0} → ReplicaValue T S → Bool
 takes_logs r = is_some r.next && not (is_some r.reported)
+
+-- whether another node acts in the place of one that stands so
+abbrev pub was_replaced : Standing → Bool
+was_replaced Acts = false
+was_replaced Awaits = false
+was_replaced Replaced = true
+
+-- whether it was replaced: it is to stop
+abbrev pub is_replaced : {T S : Type 0} → ReplicaValue T S → Bool
+is_replaced r = was_replaced (standing_of r.member.node)
 
 -- the replica, with other stores of other epochs
 abbrev pub with_stores : {T S : Type 0} → T → ReplicaValue T S → ReplicaValue T S

@@ -3,15 +3,17 @@ use Rattle.std.specs.Prelude.{◌≡◌, ◌⊎◌, ℕ, Bool, true, false, not,
 use Rattle.std.specs.Prelude.{Some, None}
 use Rattle.std.specs.Option.{is_some}
 use Rattle.desk_types.specs.declared.command.Entry.{Entry}
+use Rattle.desk_types.specs.declared.packet.Message.{Message}
 use Rattle.desk_log.specs.SavedValue.{SavedValue}
 use Rattle.desk_log.specs.declared.state_store.StateStore.{Ghosts}
 use Rattle.desk_epoch_node.specs.Does.{BeginsAfter, is_due}
 use Rattle.desk_epoch_node.specs.EpochValue.{EpochValue, committed_cut}
 use Rattle.desk_epoch_node.specs.PastRows.{StandFor}
+use Rattle.desk_epoch_stores.specs.Starting.{MayHoldNoMore}
 use Rattle.desk_epoch_replica.specs.declared.replica_step.ReplicaStep.{ReplicaStep}
 use Rattle.desk_epoch_replica.specs.declared.replica_step.ReplicaStep.TheVariants as out
-use Rattle.desk_epoch_replica.specs.MemberValue.{MemberValue}
-use Rattle.desk_epoch_replica.specs.ReplicaValue.{ReplicaValue}
+use Rattle.desk_epoch_replica.specs.MemberValue.{HasPast, MemberValue}
+use Rattle.desk_epoch_replica.specs.ReplicaValue.{ReplicaValue, is_replaced, with_stores}
 
 -- These entries are the logs of its past, one after the other.
 abbrev pub StandsAfter : {T S : Type 0} → ReplicaValue T S → List Entry → Type 0
@@ -80,13 +82,46 @@ pub record EntersEpoch (old new : MemberValue) : Type 0 where
   pub tell_ticks_are : new.tell_ticks ≡ old.tell_ticks
   pub refused_is : new.refused ≡ old.refused
 
--- The replica began the next epoch, after all that it had committed of its own, and is saved there.
+-- The replica began the next epoch, after all that it had committed of its own, and is saved there. What it keeps of
+-- past logs is of some logs.
 pub record ReplicaBegins {T S : Type 0} (g : Ghosts S) (old : ReplicaValue T S) (step : ReplicaStep)
     (new : ReplicaValue T S) : Type 0 where
   pub due : is_due old.member.node ≡ true
   pub none : old.reported ≡ None
+  pub past : HasPast old.member.node.past
   pub begins :
       (past : List Entry) → StandsAfter old past → IsBeginning past old.member.node new.member.node step
   pub member : EntersEpoch old.member new.member
   pub saved : IsSavedReplica g new
   pub reported_is : new.reported ≡ None
+
+-- The member began the next epoch, after all that it had committed of its own, and the first state there was not saved:
+-- the store is that of the epoch before.
+pub record FailsToBegin {T S : Type 0} (old new : ReplicaValue T S) : Type 0 where
+  pub none : old.reported ≡ None
+  pub past : HasPast old.member.node.past
+  pub begins : (packets : List (ℕ × Message)) × ((past : List Entry) → StandsAfter old past →
+      BeginsAfter past (replica_cut old) old.member.node new.member.node packets)
+  pub reported_is : new.reported ≡ None
+  pub current_is : new.current ≡ old.current
+
+-- The replica may have opened the next store. Its other stores of other epochs may hold no more than before, and all
+-- else is as it was.
+pub record PreparesReplica {T S : Type 0} (may_hold : T → ℕ → SavedValue → Type 0) (old new : ReplicaValue T S) :
+    Type 0
+  where
+    pub member_is : new.member ≡ old.member
+    pub current_is : new.current ≡ old.current
+    pub reported_is : new.reported ≡ old.reported
+    pub unsaved_is : new.unsaved ≡ old.unsaved
+    pub stores : MayHoldNoMore may_hold old.stores new.stores
+
+-- The next store is not open unless it was. Other stores may hold no more than before, and all else is as it was.
+abbrev pub FailsToPrepare : {T S : Type 0} → (T → ℕ → SavedValue → Type 0) → ReplicaValue T S → ReplicaValue T S →
+    Type 0
+FailsToPrepare may_hold old new =
+    (new ≡ with_stores new.stores old) × MayHoldNoMore may_hold old.stores new.stores
+
+-- The next store is open, and no other node acts in its place.
+abbrev pub IsPrepared : {T S : Type 0} → ReplicaValue T S → Type 0
+IsPrepared r = (is_some r.next ≡ true) × (is_replaced r ≡ false)

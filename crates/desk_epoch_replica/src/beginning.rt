@@ -7,6 +7,7 @@ ghost use Rattle.desk_types.specs.declared.refusal.Refusal.TheVariants as refusa
 ghost use Rattle.desk_epoch_node.specs.Does.{BeginsAfter, is_due};
 ghost use Rattle.desk_epoch_node.specs.EpochValue.{committed_cut};
 ghost use Rattle.desk_epoch_node.specs.PastRows.{StandFor};
+ghost use Rattle.desk_epoch_replica.specs.MemberValue.{HasPast};
 ghost use Rattle.desk_epoch_replica.specs.Saves.{EntersEpoch};
 
 use crate::epoch_member::EpochMember;
@@ -36,6 +37,7 @@ impl EpochMember {
         ensures unsaved { IfErr result (λ r. r ≡ refusals.StoreFault → (packets : List _)
             × ((past : List AnEntry) → StandFor past self.old.node.past →
             BeginsAfter past (committed_cut self.old.node) self.old.node self.new.node packets)) }
+        ensures past { HasPast self.old.node.past }
         ensures left { OnErr result (stores.new.current ≡ stores.old.current) }
         ensures fault { IfErr result (λ r. (r ≡ refusals.WantOfMemory) ⊎ (r ≡ refusals.StoreFault)) }
     {

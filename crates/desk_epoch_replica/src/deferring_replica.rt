@@ -11,11 +11,11 @@ ghost use Rattle.desk_replica.specs.EpochPackets.{packets_of_step};
 use crate::epoch_replica::EpochReplica;
 use crate::item::EpochItem;
 use crate::limits::DEFERRED_REQUESTS;
-use crate::outgoing::{only_answer, only_packets, own_answer, own_step, split_own};
+use crate::outgoing::{answer_or_deferred, only_answer, only_packets, own_step, split_own};
 use crate::replica_step::{EpochAnswer, ReplicaStep};
 use desk_epoch_stores::EpochStores;
 use desk_node::Step;
-use desk_replica::{Answer, ItemStep};
+use desk_replica::ItemStep;
 use desk_types::{Entry, Packet, Purpose, WantOfMemory};
 use std::alloc::Global;
 
@@ -94,34 +94,11 @@ impl<T: EpochStores> DeferringReplica<T> {
         ensures deferred { self.new.deferred.items ≡ deferred_after self.old.deferred.items (out.Answer answer) }
         ensures same { self.new.replica ≡ self.old.replica }
     {
-        match answer {
-            EpochAnswer::Deferred(entry) => {
+        match answer_or_deferred(answer) {
+            Ok(own) => only_answer(alloc, none, Some(own)),
+            Err(entry) => {
                 self.defer(entry);
                 only_answer(alloc, none, None)
-            }
-            EpochAnswer::Committed {
-                client,
-                number,
-                place,
-            } => {
-                let own = Answer::Committed {
-                    client,
-                    number,
-                    place,
-                };
-                only_answer(alloc, none, Some(own))
-            }
-            EpochAnswer::Refused {
-                client,
-                number,
-                refusal,
-            } => {
-                let own = Answer::Refused {
-                    client,
-                    number,
-                    refusal,
-                };
-                only_answer(alloc, none, Some(own))
             }
         }
     }

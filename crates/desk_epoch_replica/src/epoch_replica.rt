@@ -1,6 +1,6 @@
 //! A member of a group that goes on over epochs, with its stores.
 
-ghost use Rattle.std.specs.Prelude.{◌≡◌, ◌<◌, ◌+◌, ◌⊎◌, List, false, length, None, Some, IfOk, IfErr};
+ghost use Rattle.std.specs.Prelude.{◌≡◌, ◌<◌, ◌+◌, ◌⊎◌, List, false, length, None, Some, Err, IfOk, IfErr};
 ghost use Rattle.std.specs.Prelude.{IfSome, MatchOption, MatchResult, OnOk, OnErr, true};
 ghost use Rattle.std.specs.Option.{is_some};
 ghost use Rattle.desk_types.specs.Group.{IsGroup};
@@ -8,12 +8,12 @@ ghost use Rattle.desk_types.specs.declared.command.Entry.{Entry as AnEntry};
 ghost use Rattle.desk_types.specs.declared.refusal.Refusal.TheVariants as refusals;
 ghost use Rattle.desk_node.specs.NodeValue.{node_from};
 ghost use Rattle.desk_epoch_stores.specs.Starting.{MayHoldNoMore};
-ghost use Rattle.desk_epoch_node.specs.Does.{BeginsAfter};
 ghost use Rattle.desk_epoch_node.specs.PastRows.{StandFor};
 ghost use Rattle.desk_epoch_replica.specs.Follows.{ReplicaDoes, ReplicaFollows, ReplicaRefuses};
 ghost use Rattle.desk_epoch_replica.specs.Follows.{reported_after, unsaved_after};
 ghost use Rattle.desk_epoch_replica.specs.MemberValue.{HasPast, new_member};
-ghost use Rattle.desk_epoch_replica.specs.ReplicaValue.{ReplicaValue, takes_logs, with_stores};
+ghost use Rattle.desk_epoch_replica.specs.ReplicaValue.{ReplicaValue, is_replaced, takes_logs, with_stores};
+ghost use Rattle.desk_epoch_replica.specs.Saves.{FailsToBegin, FailsToPrepare, IsPrepared, PreparesReplica};
 ghost use Rattle.desk_epoch_replica.specs.Saves.{ReplicaBegins, FailsToSaveReplica, IsSavedReplica, SavesReplica};
 ghost use Rattle.desk_epoch_replica.specs.PastPackets.{IsPastPacket};
 ghost use Rattle.desk_epoch_replica.specs.Saves.{replica_base, replica_cut, may_begin};
@@ -21,7 +21,7 @@ ghost use Rattle.desk_epoch_replica.specs.Saves.{replica_base, replica_cut, may_
 use crate::epoch_member::EpochMember;
 use crate::item::EpochItem;
 use crate::replica_step::ReplicaStep;
-use desk_epoch_node::{Ended, EpochNode, tell_log};
+use desk_epoch_node::{Ended, EpochNode, Standing, tell_log};
 use desk_epoch_stores::{EpochStores, NodeStores, OpenedEpoch, reported_state};
 use desk_log::{Log, Saved, StateStore};
 use desk_types::{Entry, Owner, Packet, Refusal, WantOfMemory};
@@ -245,17 +245,44 @@ impl<T: EpochStores> EpochReplica<T> {
         Ok(())
     }
 
-    /// Opens the store of the next epoch, where it is not open. After `WantOfMemory` nothing has changed, and it may be
-    /// tried again. After another refusal the replica cannot go on.
+    /// Opens the store of the next epoch, where it is not open. After a refusal nothing has changed but what opens the
+    /// stores, which may hold no more than before. After `WantOfMemory` it may be tried again. After another refusal
+    /// the replica cannot go on.
     pub fn prepare(&mut self) -> Result<(), Refusal>
         ensures member { self.new.member ≡ self.old.member }
         ensures current { self.new.current ≡ self.old.current }
         ensures reported { (self.new.reported ≡ self.old.reported) × (self.new.unsaved ≡ self.old.unsaved) }
         ensures ready { OnOk result (is_some self.new.next ≡ true) }
+        ensures refused { OnErr result (self.new ≡ with_stores self.new.stores self.old) }
+        ensures stores { MayHoldNoMore T.may_hold self.old.stores self.new.stores }
         ensures held { self.old.next ≡ None → IfSome self.new.next
             (λ store. T.may_hold self.old.stores (self.old.member.node.epoch + 1) (T.Store.last store)) }
     {
         self.stores.prepare(self.member.node())
+    }
+
+    /// Whether it was replaced: another node acts in its place.
+    fn is_replaced(&self) -> bool
+        ensures { result ≡ is_replaced self.now }
+    {
+        match self.member.node().standing() {
+            Standing::Acts | Standing::Awaits => false,
+            Standing::Replaced => true,
+        }
+    }
+
+    /// Opens the store of the next epoch, as `prepare` does. One that was replaced begins no epoch any more: it is
+    /// refused by `NodeStopped`.
+    pub(crate) fn prepare_unless_replaced(&mut self) -> Result<(), Refusal>
+        ensures prepares { PreparesReplica T.may_hold self.old self.new }
+        ensures ready { OnOk result (IsPrepared self.new) }
+        ensures refused { OnErr result (FailsToPrepare T.may_hold self.old self.new) }
+        ensures replaced { is_replaced self.old ≡ true → result ≡ Err refusals.NodeStopped }
+    {
+        if self.is_replaced() {
+            return Err(Refusal::NodeStopped);
+        }
+        self.prepare()
     }
 
     /// Begins the next epoch where it has committed the end of its own, there is one more, the next store is open, and
@@ -268,9 +295,7 @@ impl<T: EpochStores> EpochReplica<T> {
             (λ step. ReplicaBegins T.Store.StateStore self.old step self.new)) }
         ensures waits { IfOk result (λ begun. begun ≡ None → may_begin self.old ≡ false) }
         ensures refused { IfErr result (λ r. r ≡ refusals.WantOfMemory → self.new ≡ self.old) }
-        ensures unsaved { IfErr result (λ r. r ≡ refusals.StoreFault → (packets : List _)
-            × ((past : List AnEntry) → StandFor past self.old.member.node.past →
-            BeginsAfter past (replica_cut self.old) self.old.member.node self.new.member.node packets)) }
+        ensures unsaved { IfErr result (λ r. r ≡ refusals.StoreFault → FailsToBegin self.old self.new) }
         ensures left { OnErr result (self.new.current ≡ self.old.current) }
         ensures fault { IfErr result (λ r. (r ≡ refusals.WantOfMemory) ⊎ (r ≡ refusals.StoreFault)) }
     {

@@ -2,7 +2,7 @@
 
 use crate::deferring_replica::DeferringReplica;
 use crate::item::EpochItem;
-use crate::outgoing::only_answer;
+use crate::outgoing::{first_packets, only_answer};
 use desk_epoch_stores::EpochStores;
 use desk_mailbox::Item;
 use desk_replica::{ItemStep, Replica, SavedReplica};
@@ -44,8 +44,9 @@ impl<T: EpochStores> SavedReplica for DeferringReplica<T> {
     ghost use Rattle.desk_epoch_replica.specs.DeferringSaves.{deferring_saved_on, deferring_failed_on};
     ghost use Rattle.desk_epoch_replica.specs.DeferringSaves.{deferring_forgotten_on, deferring_followed_keeps};
     ghost use Rattle.desk_epoch_replica.specs.DeferringSaves.{deferring_saved_keeps, deferring_keeps_further};
+    ghost use Rattle.desk_epoch_replica.specs.DeferringBeginnings.{deferring_begun_on, deferring_prepared_on};
 
-    ghost saving = { deferring_saving T.Store.StateStore };
+    ghost saving = { deferring_saving T.may_hold T.Store.StateStore };
 
     fn past_len(&self) -> u64 {
         let reported = match self.replica.reported() {
@@ -74,6 +75,20 @@ impl<T: EpochStores> SavedReplica for DeferringReplica<T> {
         self.replica.forget_reported();
     }
 
+    // The requests that are held are done again at ticks of the next epoch.
+    fn begin_next(&mut self) -> Result<Option<ItemStep>, Refusal> {
+        let alloc = self.replica.node().node().member().alloc;
+        match self.replica.begin_next() {
+            Ok(Some(step)) => Ok(Some(first_packets(alloc, step))),
+            Ok(None) => Ok(None),
+            Err(refusal) => Err(refusal),
+        }
+    }
+
+    fn prepare(&mut self) -> Result<(), Refusal> {
+        self.replica.prepare_unless_replaced()
+    }
+
     ghost past_counts = { λ r past stands. deferring_past_counts r past stands };
 
     ghost saved_last = { λ old new saves. deferring_saved_last _ old new saves };
@@ -84,16 +99,25 @@ impl<T: EpochStores> SavedReplica for DeferringReplica<T> {
 
     ghost followed_on = { λ old new follows. deferring_followed_on T.may_hold _ old new follows };
 
-    ghost saved_on = { λ old new saves. deferring_saved_on _ old new saves };
+    ghost saved_on = { λ old new saves. deferring_saved_on T.may_hold _ old new saves };
 
-    ghost failed_on = { λ old new fails. deferring_failed_on _ old new fails };
+    ghost failed_on = { λ old new fails. deferring_failed_on T.may_hold _ old new fails };
 
-    ghost forgotten_on = { λ old new forgets. deferring_forgotten_on (record {
+    ghost forgotten_on = { λ old new forgets. deferring_forgotten_on T.may_hold (record {
       last = T.Store.last;
       stopped = T.Store.stopped;
       keeps = T.Store.keeps;
       leaves = T.Store.leaves;
     }) T.Store.preserved_still old new forgets };
+
+    ghost begun_on = { λ old new packets begins. deferring_begun_on T.may_hold _ old new packets begins };
+
+    ghost prepared_on = { λ old new prepares. deferring_prepared_on T.may_hold (record {
+      last = T.Store.last;
+      stopped = T.Store.stopped;
+      keeps = T.Store.keeps;
+      leaves = T.Store.leaves;
+    }) T.Store.preserved_still old new prepares };
 
     ghost followed_keeps = { λ old new follows. deferring_followed_keeps T.Store.keeps T.Store.preserved_still
         T.may_hold old new follows };

@@ -1,16 +1,17 @@
 //! What goes out for a step of a replica.
 
-ghost use Rattle.std.specs.Prelude.{◌≡◌, [], false, MatchResult, option_to_list};
+ghost use Rattle.std.specs.Prelude.{◌≡◌, [], true, false, Some, MatchResult, option_to_list};
 ghost use Rattle.desk_replica.specs.Answers.{answers_with_own};
 ghost use Rattle.desk_replica.specs.EpochPackets.{packets_of_step, packets_under};
 ghost use Rattle.desk_types.specs.declared.epoch_packet.Purpose.TheVariants as purposes;
 ghost use Rattle.desk_epoch_replica.specs.declared.replica_step.ReplicaStep.TheVariants as out;
-ghost use Rattle.desk_epoch_replica.specs.Outgoing.{is_deferred, is_node_step, own_answer};
+ghost use Rattle.desk_epoch_replica.specs.declared.replica_step.EpochAnswer.TheVariants as answers;
+ghost use Rattle.desk_epoch_replica.specs.Outgoing.{is_beginning, is_deferred, is_node_step, own_answer, step_packets};
 
 use crate::replica_step::{EpochAnswer, ReplicaStep};
 use desk_node::Step;
 use desk_replica::{Answer, ItemStep, StepAnswers};
-use desk_types::{Packet, Purpose};
+use desk_types::{Entry, Packet, Purpose};
 use std::alloc::Global;
 
 /// Packets of an epoch for a purpose, and no answers.
@@ -42,6 +43,19 @@ pub(crate) fn only_answer(alloc: Global, none: Vec<(u8, Packet)>, own: Option<An
         purpose: Purpose::Step,
         packets: none,
         answers: StepAnswers::new(0, Vec::new(alloc), own),
+    }
+}
+
+/// The packets that go out first in an epoch.
+pub(crate) fn first_packets(alloc: Global, step: ReplicaStep) -> ItemStep
+    requires { is_beginning step ≡ true }
+    ensures { packets_of_step result ≡ step_packets step }
+{
+    match step {
+        ReplicaStep::Began { epoch, packets } => {
+            only_packets(alloc, epoch, Purpose::Step, packets)
+        }
+        _ => unreachable!(),
     }
 }
 
@@ -77,16 +91,17 @@ pub(crate) fn is_deferred(step: &ReplicaStep) -> bool
     matches!(step, ReplicaStep::Answer(EpochAnswer::Deferred(_)))
 }
 
-/// What becomes of a request that the node of the epoch did not meet. Of one that is deferred nothing is said.
-fn answer_of(answer: EpochAnswer) -> Option<Answer>
-    ensures { result ≡ own_answer (out.Answer answer) }
+/// What becomes of a request that the node of the epoch did not meet; else the request, where it is deferred.
+pub(crate) fn answer_or_deferred(answer: EpochAnswer) -> Result<Answer, Entry>
+    ensures { MatchResult result (λ own. own_answer (out.Answer answer) ≡ Some own)
+        (λ entry. answer ≡ answers.Deferred entry) }
 {
     match answer {
         EpochAnswer::Committed {
             client,
             number,
             place,
-        } => Some(Answer::Committed {
+        } => Ok(Answer::Committed {
             client,
             number,
             place,
@@ -95,24 +110,27 @@ fn answer_of(answer: EpochAnswer) -> Option<Answer>
             client,
             number,
             refusal,
-        } => Some(Answer::Refused {
+        } => Ok(Answer::Refused {
             client,
             number,
             refusal,
         }),
-        EpochAnswer::Deferred(entry) => {
-            drop(entry);
-            None
-        }
+        EpochAnswer::Deferred(entry) => Err(entry),
     }
 }
 
-/// What the replica answers of its own.
+/// What the replica answers of its own. Of a request that is deferred nothing is said.
 pub(crate) fn own_answer(step: ReplicaStep) -> Option<Answer>
     ensures { result ≡ own_answer step }
 {
     match step {
-        ReplicaStep::Answer(answer) => answer_of(answer),
+        ReplicaStep::Answer(answer) => match answer_or_deferred(answer) {
+            Ok(own) => Some(own),
+            Err(entry) => {
+                drop(entry);
+                None
+            }
+        },
         other => {
             drop(other);
             None

@@ -58,11 +58,13 @@ impl<T: EpochStores> NodeStores<T> {
         self.next.is_some()
     }
 
-    /// Opens the store of the epoch after that of the node, where it is not open. Where memory is refused
-    /// (`WantOfMemory`) nothing changes, and it may be tried again.
+    /// Opens the store of the epoch after that of the node, where it is not open. After a refusal nothing has changed
+    /// but what opens the stores, which may hold no more than before. After `WantOfMemory` it may be tried again.
     pub fn prepare(&mut self, node: &EpochNode) -> Result<(), Refusal>
         ensures current { self.new.current ≡ self.old.current }
         ensures ready { OnOk result (is_some self.new.next ≡ true) }
+        ensures refused { OnErr result (self.new.next ≡ self.old.next) }
+        ensures same { MayHoldNoMore T.may_hold self.old.stores self.new.stores }
         ensures held { self.old.next ≡ None → IfSome self.new.next
             (λ store. T.may_hold self.old.stores (node.now.epoch + 1) (T.Store.last store)) }
     {

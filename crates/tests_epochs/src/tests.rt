@@ -1,5 +1,6 @@
 //! Worked examples of nodes over epochs, in which an epoch ends after two entries.
 
+mod beginnings;
 mod epochs;
 mod headers;
 mod keeping;

@@ -28,7 +28,7 @@ fn start(alloc: Global) -> Option<DeferringReplica<MemoryStores>> {
     Some(DeferringReplica::new(alloc, replica))
 }
 
-fn item(alloc: Global, comes: Comes) -> Option<Item> {
+pub(super) fn item(alloc: Global, comes: Comes) -> Option<Item> {
     match event(alloc, comes)? {
         EpochEvent::Request(entry) => Some(Item::Request { session: 0, entry }),
         EpochEvent::Packet(packet) => Some(Item::Packet(packet)),
@@ -59,7 +59,7 @@ fn place(answer: &Answer) -> u64 {
 }
 
 /// The last place that is answered; 0 where there is none.
-fn answered(step: &ItemStep) -> u64 {
+pub(super) fn answered(step: &ItemStep) -> u64 {
     let (base, outcomes, own) = step.answers.parts();
     let mut last = 0;
     for outcome in outcomes {

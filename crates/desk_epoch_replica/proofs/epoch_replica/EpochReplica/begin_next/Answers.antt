@@ -24,6 +24,7 @@ returns-clause-begun g c =
     (record {
       due = b.0;
       none = none;
+      past = c.begin_next.ensures.past;
       begins = λ past s. (c.epoch-epoch.ensures.value ∙ ap (λ (e : EpochValue). e.epoch) c.node.ensures, b.1 past s);
       member = b.2;
       saved = record {

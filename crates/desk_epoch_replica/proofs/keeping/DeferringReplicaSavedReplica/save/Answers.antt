@@ -1,4 +1,4 @@
-use Rattle.desk_epoch_replica.specs.DeferringSaves.{saved_before, saves_in_past}
+use Rattle.desk_epoch_replica.specs.DeferringSaves.{saved_before}
 use Rattle.desk_epoch_replica.specs.ReplicaValue.{with_stores}
 use Rattle.desk_epoch_replica.proofs.keeping.DeferringReplicaSavedReplica.save.Goals as goal
 

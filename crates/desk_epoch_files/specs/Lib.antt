@@ -1,0 +1,4 @@
+pub mod EpochTable
+pub mod Causes
+pub mod Opening
+pub mod Reports

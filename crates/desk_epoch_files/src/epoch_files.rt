@@ -1,0 +1,330 @@
+//! The files of a node's epochs, as they are opened one after the other.
+
+ghost use Rattle.std.specs.Prelude.{◌≡◌, ◌<◌, ◌+◌, List, ℕ, IsTrue, false, true, nat_le, IfOk, IfErr, IfSome, IsOk};
+ghost use Rattle.std.specs.Prelude.{OnOk, Some, None, string_bytes};
+ghost use Rattle.sqlite.specs.Held.{Held};
+ghost use Rattle.desk_types.specs.declared.limits.TheConstants.{LAST_PLACE};
+ghost use Rattle.desk_output.specs.Telling.{TellsFirst};
+ghost use Rattle.desk_output.specs.declared.telling.TheConstants.{FAILED};
+ghost use Rattle.desk_saved.specs.Opening.{IsOpeningRefusal};
+ghost use Rattle.desk_epoch_files.specs.Causes.{BlamesFile, cause_refusal};
+ghost use Rattle.desk_epoch_files.specs.Reports.{reported_refusal};
+ghost use Rattle.desk_epoch_files.specs.Opening.{MayBeOthers, MayBeReady, MayHold, OpensEpoch};
+
+use crate::cause::Cause;
+use crate::epoch_table::is_of_epoch;
+use crate::named_databases::NamedDatabases;
+use crate::next_file::make_file;
+use crate::open_error::OpenError;
+use desk_epoch_stores::EpochStores;
+use desk_file::{EndedFile, name_in_epoch, open_node};
+use desk_output::refusal_status;
+use desk_saved::SavedState;
+use desk_types::limits::LAST_PLACE;
+use desk_types::{Owner, Refusal};
+use sqlite::{Alter, Connection};
+use std::alloc::Global;
+use std::io::Write;
+
+/// Opens the state of a node in a database, where that is its file of an epoch, by its mark. Where it is refused the
+/// connection is given back.
+fn open_state<S: Alter>(
+    alloc: Global,
+    connection: Connection<S>,
+    owner: &Owner,
+    epoch: u64,
+) -> Result<SavedState<S>, (Option<Connection<S>>, Cause)>
+    ensures running { IfOk result (λ store. store.stopped ≡ false) }
+    ensures opened { IfOk result (OpensEpoch S.Store owner.now epoch connection) }
+{
+    let mut connection = connection;
+    match is_of_epoch(&mut connection, epoch) {
+        Ok(true) => {}
+        Ok(false) => return Err((Some(connection), Cause::OtherEpoch)),
+        Err(cause) => return Err((Some(connection), cause)),
+    }
+    match open_node(alloc, connection, owner) {
+        Ok(store) => Ok(store),
+        Err(EndedFile { connection, end }) => Err((connection, Cause::NoState(end))),
+    }
+}
+
+/// Opens a node's file of an epoch. That of the first epoch is made where it is missing, and no other. A file that is
+/// refused is closed.
+fn open_file<D: NamedDatabases>(
+    alloc: Global,
+    databases: &mut D,
+    file: &str,
+    owner: &Owner,
+    epoch: u64,
+) -> Result<SavedState<D::Pages>, Cause>
+    ensures running { IfOk result (λ store. store.stopped ≡ false) }
+    ensures held { IfOk result (λ store. MayHold D.Pages.Store owner.now (D.may_open databases.old) file.now epoch
+        store.last) }
+    ensures same { (at : List ℕ) → (c : Held D.Pages) → D.may_open databases.new at c
+        → D.may_open databases.old at c }
+{
+    let Ok(name) = name_in_epoch(alloc, file, epoch) else {
+        return Err(Cause::NoMemory);
+    };
+    match databases.is_there(name.as_str()) {
+        Ok(is_there) if is_there || epoch == 0 => {}
+        Ok(_) => return Err(Cause::Missing),
+        Err(error) => return Err(Cause::Unopened(error)),
+    }
+    let connection = match databases.open(name.as_str()) {
+        Ok(connection) => connection,
+        Err(error) => return Err(Cause::Unopened(error)),
+    };
+    match open_state(alloc, connection, owner, epoch) {
+        Ok(store) => Ok(store),
+        Err((mut connection, cause)) => {
+            let _ = databases.close(name.as_str(), &mut connection);
+            Err(cause)
+        }
+    }
+}
+
+/// The files of a node over epochs. Each epoch ends after so many entries, `most`.
+pub struct EpochFiles<D: NamedDatabases> {
+    alloc: Global,
+    databases: D,
+    /// The name of the first file.
+    file: String,
+    owner: Owner,
+    most: u64,
+    /// Whether a first file whose epoch has ended gets a second one, as an operator asks for.
+    adds_second: bool,
+    /// Why the latest call opened no file; nothing where it opened one.
+    error: Option<OpenError>,
+}
+
+// Written out, so that callers need not prove each part's drop.
+impl<D: NamedDatabases + Drop> Drop for EpochFiles<D> {
+    fn drop(self) {
+        let EpochFiles {
+            alloc: _,
+            databases: _,
+            file: _,
+            owner: _,
+            most: _,
+            adds_second: _,
+            error: _,
+        } = self;
+    }
+}
+
+impl<D: NamedDatabases> EpochFiles<D> {
+    /// The files of a node, of which the first one has this name. An epoch ends after so many entries, `most`. Where
+    /// `adds_second`, a first file whose epoch has ended gets a second one, as a desk of one file leaves none.
+    pub fn new(
+        alloc: Global,
+        databases: D,
+        file: String,
+        owner: Owner,
+        most: u64,
+        adds_second: bool,
+    ) -> EpochFiles<D>
+        ensures { result ≡ record {
+          alloc = alloc;
+          databases = databases;
+          file = file;
+          owner = owner;
+          most = most;
+          adds_second = adds_second;
+          error = None;
+        } }
+    {
+        EpochFiles {
+            alloc,
+            databases,
+            file,
+            owner,
+            most,
+            adds_second,
+            error: None,
+        }
+    }
+
+    /// What opens the databases.
+    pub fn into_databases(self) -> D
+        ensures { result ≡ self.databases }
+    {
+        let EpochFiles {
+            alloc: _,
+            databases,
+            file: _,
+            owner: _,
+            most: _,
+            adds_second: _,
+            error: _,
+        } = self;
+        databases
+    }
+
+    /// Prints to the standard error why the latest call did not open a file, and which, and answers the exit status.
+    /// Where that call opened one, it prints the given refusal.
+    pub fn refusal_status<E: Write>(&self, errors: &mut E, refusal: &Refusal) -> u8
+        ensures status { result ≡ FAILED }
+        ensures printed { TellsFirst (E.contents errors.old) (E.contents errors.new)
+            (reported_refusal self.now.error refusal.now) }
+    {
+        match &self.error {
+            Some(error) => error.status(self.alloc, errors, self.file.as_str(), &self.owner),
+            None => refusal_status(errors, refusal),
+        }
+    }
+
+    /// Whether the second file is made though the first epoch has ended: where an operator asks for it and there is no
+    /// third file. That is made where the second one is opened, so it shows that the second one was lost.
+    fn may_add_second(&mut self, epoch: u64) -> Result<bool, OpenError>
+        ensures asked { IfOk result (λ is. IsTrue is → IsTrue self.old.adds_second × (epoch ≡ 0)) }
+        ensures unblamed { IfErr result (λ error. ¬ (BlamesFile error.cause)) }
+        ensures same { (at : List ℕ) → (c : Held D.Pages) → D.may_open self.new.databases at c
+            → D.may_open self.old.databases at c }
+        ensures files { self.new ≡ record self.old { databases = self.new.databases } }
+    {
+        if !self.adds_second || epoch != 0 {
+            return Ok(false);
+        }
+        let Ok(name) = name_in_epoch(self.alloc, self.file.as_str(), 2) else {
+            return Err(OpenError::new(2, Cause::NoMemory));
+        };
+        match self.databases.is_there(name.as_str()) {
+            Ok(is_there) => Ok(!is_there),
+            Err(error) => Err(OpenError::new(2, Cause::Unopened(error))),
+        }
+    }
+
+    /// Makes the file of an epoch, where it is not there or not whole.
+    fn make_ahead(&mut self, epoch: u64, has_ended: bool) -> Result<(), OpenError>
+        ensures made { OnOk result (MayBeReady D.Pages.Store self.old.owner (D.may_open self.old.databases)
+            (string_bytes self.old.file) epoch has_ended) }
+        ensures other { IfErr result (λ error. BlamesFile error.cause → MayBeOthers D.Pages.Store self.old.owner
+            (D.may_open self.old.databases) (string_bytes self.old.file) epoch) }
+        ensures same { (at : List ℕ) → (c : Held D.Pages) → D.may_open self.new.databases at c
+            → D.may_open self.old.databases at c }
+        ensures files { self.new ≡ record self.old { databases = self.new.databases } }
+    {
+        let file = self.file.as_str();
+        match make_file(
+            self.alloc,
+            &mut self.databases,
+            file,
+            &self.owner,
+            epoch,
+            has_ended,
+        ) {
+            Ok(()) => Ok(()),
+            Err(cause) => Err(OpenError::new(epoch, cause)),
+        }
+    }
+
+    /// Makes the file of the next epoch, where it is not there. After an epoch that has ended it is made only where an
+    /// operator asks for it: else one that is missing was lost.
+    fn prepare_next(&mut self, epoch: u64, store: &SavedState<D::Pages>) -> Result<(), OpenError>
+        ensures made { epoch < LAST_PLACE → nat_le self.old.most store.now.last.commit ≡ false → OnOk result
+            (MayBeReady D.Pages.Store self.old.owner (D.may_open self.old.databases) (string_bytes self.old.file)
+            (epoch + 1) false) }
+        ensures other { IfErr result (λ error. BlamesFile error.cause → MayBeOthers D.Pages.Store self.old.owner
+            (D.may_open self.old.databases) (string_bytes self.old.file) (epoch + 1)) }
+        ensures same { (at : List ℕ) → (c : Held D.Pages) → D.may_open self.new.databases at c
+            → D.may_open self.old.databases at c }
+        ensures files { self.new ≡ record self.old { databases = self.new.databases } }
+    {
+        let Ok(saved) = store.last_saved() else {
+            return Err(OpenError::new(epoch, Cause::NoMemory));
+        };
+        if epoch >= LAST_PLACE {
+            return Ok(());
+        }
+        if saved.commit() < self.most {
+            return self.make_ahead(epoch + 1, false);
+        }
+        if self.may_add_second(epoch)? {
+            return self.make_ahead(epoch + 1, true);
+        }
+        Ok(())
+    }
+
+    /// Notes why a file was not opened, and answers the refusal.
+    fn fail(&mut self, error: OpenError) -> Refusal
+        ensures refusal { result ≡ cause_refusal error.cause }
+        ensures kind { IsOpeningRefusal result }
+        ensures error { self.new ≡ record self.old { error = Some error } }
+    {
+        let refusal = error.refusal();
+        self.error = Some(error);
+        refusal
+    }
+
+    /// Closes the file of an epoch: whether all that was saved stands in the file. Else it is to be opened with what
+    /// stands beside it.
+    pub fn close_epoch(&mut self, epoch: u64, store: SavedState<D::Pages>) -> bool
+        ensures same { (at : List ℕ) → (c : Held D.Pages) → D.may_open self.new.databases at c
+            → D.may_open self.old.databases at c }
+        ensures files { self.new ≡ record self.old { databases = self.new.databases } }
+    {
+        match name_in_epoch(self.alloc, self.file.as_str(), epoch) {
+            Ok(name) => {
+                let mut connection = Some(store.into_connection());
+                self.databases.close(name.as_str(), &mut connection)
+            }
+            Err(_) => {
+                drop(store);
+                false
+            }
+        }
+    }
+
+    /// Opens a node's file of an epoch, counted from 0, and makes that of the next one, unless the epoch has ended. The
+    /// first file is made where it is missing. Err is `WantOfMemory` where memory is refused, and `StoreFault` where a
+    /// file can't be opened, read or written. It is `WrongFile` where a file is missing, where it is another epoch's or
+    /// node's, and where that of an epoch which has not begun is used. `refusal_status` prints which file it is.
+    /// Nothing is deleted then: a file that was made in part is finished by a later call.
+    pub fn open_epoch(&mut self, epoch: u64) -> Result<SavedState<D::Pages>, Refusal>
+        ensures running { IfOk result (λ store. store.stopped ≡ false) }
+        ensures held { IfOk result (λ store. MayHold D.Pages.Store self.old.owner (D.may_open self.old.databases)
+            (string_bytes self.old.file) epoch store.last) }
+        // Where the epoch has not ended, the file of the next one is there, and is whole.
+        ensures next { epoch < LAST_PLACE → IfOk result (λ store. nat_le self.old.most store.last.commit ≡ false
+            → MayBeReady D.Pages.Store self.old.owner (D.may_open self.old.databases) (string_bytes self.old.file)
+            (epoch + 1) false) }
+        // That file is refused for what it holds only where it is another's.
+        ensures other { IfErr result (λ _. IfSome self.new.error (λ error. error.epoch ≡ epoch + 1
+            → BlamesFile error.cause → MayBeOthers D.Pages.Store self.old.owner (D.may_open self.old.databases)
+            (string_bytes self.old.file) (epoch + 1))) }
+        ensures fault { IfErr result IsOpeningRefusal }
+        ensures reported { IfErr result (λ r. reported_refusal self.new.error r ≡ r) }
+        ensures opened { IsOk result → self.new.error ≡ None }
+        ensures same { (at : List ℕ) → (c : Held D.Pages) → D.may_open self.new.databases at c
+            → D.may_open self.old.databases at c }
+        ensures files { (self.new.file ≡ self.old.file) × (self.new.owner ≡ self.old.owner) }
+    {
+        self.error = None;
+        let file = self.file.as_str();
+        let store = match open_file(self.alloc, &mut self.databases, file, &self.owner, epoch) {
+            Ok(store) => store,
+            Err(cause) => return Err(self.fail(OpenError::new(epoch, cause))),
+        };
+        match self.prepare_next(epoch, &store) {
+            Ok(()) => Ok(store),
+            Err(error) => {
+                let _ = self.close_epoch(epoch, store);
+                Err(self.fail(error))
+            }
+        }
+    }
+}
+
+impl<D: NamedDatabases> EpochStores for EpochFiles<D> {
+    type Store = SavedState<D::Pages>;
+
+    // A file may be found with any state with which its database may be opened.
+    ghost may_hold = { λ files epoch s. MayHold D.Pages.Store files.owner (D.may_open files.databases)
+        (string_bytes files.file) epoch s };
+
+    fn open(&mut self, epoch: u64) -> Result<SavedState<D::Pages>, Refusal> {
+        self.open_epoch(epoch)
+    }
+}

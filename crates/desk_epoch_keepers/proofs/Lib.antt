@@ -1,0 +1,11 @@
+pub mod Moves
+pub mod Deeds
+pub mod ReplicaMoves
+pub mod Reported
+pub mod Starts
+pub mod TurnMoves
+pub mod GroupNodes
+pub mod Growing
+pub mod Published
+pub mod OneHistory
+pub mod Rows

@@ -1,0 +1,44 @@
+//! What is true of every running group of keepers of nodes over epochs.
+#![tactic(auto)]
+
+ghost use Rattle.desk_epoch_keepers.specs.Agreement.{KeeperHistoryStays, KeepersMakeNodes, PublishedHistoriesAgree};
+ghost use Rattle.desk_epoch_keepers.specs.Agreement.{PublishedHistoryBoardsAgree};
+ghost use Rattle.desk_epoch_keepers.specs.Agreement.{PublishedHistoryBoardsConsistent, PublishedHistoryIdentifiersStay};
+ghost use Rattle.desk_epoch_keepers.specs.Agreement.{PublishedHistoryIsRising, PublishedHistoryReplyHeld};
+ghost use Rattle.desk_epoch_keepers.specs.Agreement.{PublishedHistoryRepliesAgree, PublishedHistoryRepliesStay};
+ghost use Rattle.desk_epoch_keepers.specs.Agreement.{ReadHistoryRepliesAgree};
+ghost use Rattle.desk_epoch_keepers.specs.Agreement.{OneHistory, HistoryRowsAreReplies};
+
+use desk_epoch_stores::EpochStores;
+
+/// What is true of every group of three or five keepers of nodes over epochs, whatever turns of items they take, in
+/// whatever order, whenever they begin an epoch, and whenever they end and are started again, as long as each packet
+/// that is taken was handed out before for the node that takes it, and the stores of past epochs are found with the
+/// logs of those. It does nothing: its clauses are the facts.
+pub fn group<T: EpochStores>()
+    // What the keepers do are acts of a group of nodes of which `desk_epoch_group::group` speaks; later too.
+    ensures nodes { KeepersMakeNodes T.may_hold T.Store.StateStore }
+    // What a node has committed stays committed there.
+    ensures stays { KeeperHistoryStays T.may_hold T.Store.StateStore }
+    // What two nodes have published, then and later, in whatever epochs, is one a prefix of the other.
+    ensures agree { PublishedHistoriesAgree T.may_hold T.Store.StateStore }
+    // There is one log of which all that is published is a prefix.
+    ensures one_log { OneHistory T.may_hold T.Store.StateStore }
+    // As far as both have published, they have one board.
+    ensures boards { PublishedHistoryBoardsAgree T.may_hold T.Store.StateStore }
+    // Each such board is consistent: identifiers differ, and no unit is committed to two incidents.
+    ensures consistent { PublishedHistoryBoardsConsistent T.may_hold T.Store.StateStore }
+    // An identifier names one incident for good.
+    ensures names { PublishedHistoryIdentifiersStay T.may_hold T.Store.StateStore }
+    // No numbered command is published twice, in whatever epochs.
+    ensures rising { PublishedHistoryIsRising T.may_hold T.Store.StateStore }
+    // A board keeps each client's latest reply.
+    ensures rows { PublishedHistoryReplyHeld T.may_hold T.Store.StateStore }
+    // A number of a client has one place and one reply.
+    ensures replies { PublishedHistoryRepliesAgree T.may_hold T.Store.StateStore }
+    // A reply stands in all that is published up to its place or past it, at any node, then and later.
+    ensures replies_stay { PublishedHistoryRepliesStay T.may_hold T.Store.StateStore }
+    // What a session reads of a client is such a reply; sessions that read one number of it read one reply.
+    ensures read { HistoryRowsAreReplies T.may_hold T.Store.StateStore }
+    ensures read_replies { ReadHistoryRepliesAgree T.may_hold T.Store.StateStore }
+{}

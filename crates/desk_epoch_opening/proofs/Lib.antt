@@ -1,0 +1,2 @@
+pub mod PublishedEpochs
+pub mod Starts

@@ -1,0 +1,8 @@
+//! Worked examples of the files of node 0 of three, in which an epoch ends after four entries.
+
+mod databases;
+mod faults;
+mod files;
+mod memory;
+mod starts;
+mod stops;

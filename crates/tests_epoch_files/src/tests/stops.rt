@@ -1,0 +1,91 @@
+//! A file that stops at each of its calls in turn while a node starts, and the next start.
+
+ghost use Rattle.std.specs.Prelude.{◌≡◌};
+
+use super::databases::{MemoryDatabases, Stop};
+use super::files::{NODE_0, files_of, run_of};
+use super::starts::{Start, start};
+use std::alloc::Global;
+
+/// How many entries each epoch has committed, the file that is lost then, how the node starts, and which files stop.
+type Row = (&'static [u64], &'static str, Start, &'static [&'static str]);
+
+const ROWS: &[Row] = &[
+    (&[], "", (0, 0, 0), &["desk", "desk.1"]),
+    (&[4, 1], "desk.2", (1, 4, 1), &["desk", "desk.1", "desk.2"]),
+];
+
+/// The databases before a start.
+fn databases_before(alloc: Global, row: &Row) -> Option<MemoryDatabases> {
+    let mut databases = run_of(alloc, NODE_0, row.0)?;
+    if !row.1.is_empty() {
+        databases.rename(row.1, "lost")?;
+    }
+    Some(databases)
+}
+
+/// Where a node starts with copies of databases, or the number of the refusal; and where it starts with the same ones
+/// again, of which nothing fails then.
+fn starts(
+    alloc: Global,
+    before: &MemoryDatabases,
+    stop: Stop,
+) -> Option<(Result<Start, u8>, Result<Start, u8>)> {
+    let mut databases = before.copy()?;
+    databases.stop = Some(stop);
+    let mut files = files_of(alloc, databases, NODE_0, false)?;
+    let first = start(alloc, &mut files);
+    let mut databases = files.into_databases();
+    databases.stop = None;
+    let mut files = files_of(alloc, databases, NODE_0, false)?;
+    Some((first, start(alloc, &mut files)))
+}
+
+/// Stops a file at each of its calls in turn, until a node starts: how many starts were refused. Each of them is by 41,
+/// and the next one ends as it would with no stop. None where one does not.
+fn count_stops(
+    alloc: Global,
+    before: &MemoryDatabases,
+    expected: Start,
+    name: &'static str,
+    is_log: bool,
+) -> Option<u64> {
+    let mut stops = 0u64;
+    for calls in 0..1_000u64 {
+        let (first, second) = starts(
+            alloc,
+            before,
+            Stop {
+                name,
+                is_log,
+                calls,
+            },
+        )?;
+        match first {
+            _ if second != Ok(expected) => return None,
+            Ok(start) if start == expected => return Some(stops),
+            Err(41) => stops = stops.saturating_add(1),
+            _ => return None,
+        }
+    }
+    None
+}
+
+/// Whether a start is stopped at some call of a file and of its log, and the next one is made.
+fn is_stopped_well(alloc: Global, row: &Row, name: &'static str) -> bool {
+    let Some(before) = databases_before(alloc, row) else {
+        return false;
+    };
+    let of_log = count_stops(alloc, &before, row.2, name, true).unwrap_or(0);
+    let of_database = count_stops(alloc, &before, row.2, name, false).unwrap_or(0);
+    of_log > 0 && of_database > 0
+}
+
+#[test]
+fn a_start_that_a_file_stops_is_made_again(rt: HostRuntime) {
+    for row in ROWS {
+        for name in row.3 {
+            assert!(rt; is_stopped_well(rt.alloc(), row, name), "{}", name);
+        }
+    }
+}
