@@ -24,3 +24,7 @@ pub record IsChallenged (block hello : List ℕ) (came given : Option (List ℕ)
   pub left : Option (List ℕ)
   pub heard : Consumes came left (challenge_bytes block hello nonce)
   pub given_is : given ≡ opened_bytes (toward_initiator block hello nonce) 0 [] [] left
+
+-- Records go by this key to the end that was dialled with the hello.
+abbrev pub SealsToward : List ℕ → List ℕ → List ℕ → Type 0
+SealsToward block hello key = (nonce : List ℕ) × (key ≡ toward_acceptor block hello nonce)

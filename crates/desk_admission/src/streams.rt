@@ -4,7 +4,7 @@ ghost use Rattle.std.specs.Prelude.{◌≡◌, [], IfOk, slice_range, take};
 ghost use Rattle.desk_key.specs.Hmac.{key_block};
 ghost use Rattle.desk_records.specs.Streams.{opened_bytes};
 ghost use Rattle.desk_admission.specs.Handshake.{hello_bytes};
-ghost use Rattle.desk_admission.specs.Streams.{IsAdmitted, IsChallenged};
+ghost use Rattle.desk_admission.specs.Streams.{IsAdmitted, IsChallenged, SealsToward};
 
 use crate::admission::{AdmittedEnd, accept};
 use crate::endpoint::{Endpoint, NONCE_BYTES};
@@ -167,6 +167,9 @@ pub fn dial<I: Read + Drop, O: Write + Drop>(
         (hello_bytes port.now.endpoint from nonce.now) (I.remaining input)
         (opened_bytes ends.0.key.block.value ends.0.count (slice_range ends.0.room.items ends.0.from ends.0.until)
         (take ends.0.held ends.0.room.items) (I.remaining ends.0.inner))) }
+    // What is written then goes as records, by a key that comes of the same hello.
+    ensures sealed { IfOk result (λ ends. SealsToward (key_block port.now.key.bytes)
+        (hello_bytes port.now.endpoint from nonce.now) ends.1.key.block.value) }
 {
     let (mut input, mut output) = (input, output);
     let key = port.key.for_tags();

@@ -1,6 +1,8 @@
 -- The ports of nodes, and which of them a refusal names.
 use Rattle.std.specs.Prelude.{◌≡◌, ◌⊎◌, ◌+◌, ◌<◌, ℕ, ⊤, List, [], ◌∷◌, Option, IfSome, option_map}
+use Rattle.sha2.specs.Sha256.{sha256}
 use Rattle.desk_admission.specs.declared.endpoint.Endpoint.{Endpoint}
+use Rattle.desk_admission.specs.declared.endpoint.TheConstants.{CLIENT}
 use Rattle.desk_admission.specs.declared.endpoint.Role.TheVariants as roles
 use Rattle.desk_admission.specs.declared.streams.KeyedPort.{KeyedPort}
 use Rattle.desk_key.specs.declared.key.Key.{Key}
@@ -23,19 +25,22 @@ HasPortsOf first id ports =
 abbrev pub port_key : Option KeyedPort → Option Key
 port_key keyed = option_map (λ k. k.key) keyed
 
--- The handshake calls it the port of this node for the other nodes of its group.
-abbrev pub IsPeersEndpoint : Owner → ℕ → Endpoint → Type 0
-IsPeersEndpoint owner port endpoint =
-    (endpoint.role ≡ roles.Peer) × (endpoint.node ≡ owner.id) × (endpoint.nodes ≡ owner.n) × (endpoint.port ≡ port)
+-- The handshake calls it the port of this node for the others, in a group of so many nodes that has this domain.
+abbrev pub IsPeersEndpoint : ℕ → ℕ → List ℕ → ℕ → Endpoint → Type 0
+IsPeersEndpoint id n domain port endpoint =
+    (endpoint.role ≡ roles.Peer)
+    × ((endpoint.node ≡ id) × (endpoint.nodes ≡ n) × (endpoint.port ≡ port))
+    × (endpoint.domain ≡ sha256 domain)
 
--- It calls it a port for sessions.
+-- It calls it a port at which a client is served, whichever node's and group's it is.
 abbrev pub IsSessionsEndpoint : ℕ → Endpoint → Type 0
-IsSessionsEndpoint port endpoint = (endpoint.role ≡ roles.Session) × (endpoint.port ≡ port)
+IsSessionsEndpoint port endpoint =
+    (endpoint.role ≡ roles.Session) × ((endpoint.node ≡ CLIENT) × (endpoint.nodes ≡ 0) × (endpoint.port ≡ port))
 
 -- It calls both ports of a node so, where they have keys.
 abbrev pub BindsPortsOf : ℕ → Owner → NodePorts → Type 0
 BindsPortsOf first owner ports =
-    IfSome ports.peers.keyed (λ k. IsPeersEndpoint owner (first + owner.id) k.endpoint)
+    IfSome ports.peers.keyed (λ k. IsPeersEndpoint owner.id owner.n owner.domain (first + owner.id) k.endpoint)
     × IfSome ports.sessions.keyed (λ k. IsSessionsEndpoint (first + owner.id + SESSION_PORTS) k.endpoint)
 
 -- The port is one of those of a group of n nodes.

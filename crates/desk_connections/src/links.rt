@@ -1,7 +1,7 @@
 //! Connections to the other nodes.
 
-ghost use Rattle.std.specs.Prelude.{◌≡◌, Some, MatchResult};
-ghost use Rattle.desk_connections.specs.Links.{IsLinkNews};
+ghost use Rattle.std.specs.Prelude.{◌≡◌, Some, MatchResult, IfOk};
+ghost use Rattle.desk_connections.specs.Links.{IsLinkNews, IsSealedTo};
 ghost use Rattle.desk_connections.specs.declared.links.LinkState.TheVariants as states;
 
 use crate::limits::{
@@ -251,7 +251,10 @@ impl<R: Net<Stream = TcpStream> + RandomSource> KeyedPeer<R> {
     }
 
     /// A new connection, after a handshake.
-    fn open(&self) -> Result<Sealed<TcpStream>, Why> {
+    fn open(&self) -> Result<Sealed<TcpStream>, Why>
+        // Packets go on it as records, by a key that comes of the handshake.
+        ensures { IfOk result (λ sealed. IsSealedTo self.now.keyed self.now.from sealed.key.block.value) }
+    {
         let Ok((input, stream)) = self.reach() else {
             return Err(Why::Connect);
         };

@@ -12,9 +12,11 @@ use Rattle.desk_follow.specs.declared.nodes.NoReply.{NoReply}
 use Rattle.desk_follow.specs.declared.nodes.NodeReply.{NodeReply}
 use Rattle.desk_follow.specs.Readings.{course_of}
 
--- What a node was asked, as the bytes that are sent for a line, and its reply, where one came.
+-- What a node was asked, as the bytes that are sent for a line, whether that goes out after a handshake alone, and its
+-- reply, where one came.
 pub record Try : Type 0 where
   pub node : ℕ
+  pub is_keyed : Bool
   pub asked : List ℕ
   pub came : Option (List ℕ)
 
@@ -30,7 +32,12 @@ held_request line = line.bytes.items ++ (if line.is_long then 32 ∷ 10 ∷ [] e
 -- the tries that lines and what came of each tell, in order
 abbrev pub tries_of : List (LineBuffer × NodeReply) → List Try
 tries_of entries =
-    map (λ e. record { node = e.1.node; asked = held_request e.0; came = came_of e.1.reply }) entries
+    map (λ e. record {
+      node = e.1.node;
+      is_keyed = e.1.is_keyed;
+      asked = held_request e.0;
+      came = came_of e.1.reply;
+    }) entries
 
 -- what is done about the line then; it is asked again where no reply came
 abbrev pub course_by : ℕ → Option (List ℕ) → Course
@@ -51,30 +58,33 @@ node_by count node courses.Final = node
 abbrev pub node_after : ℕ → ℕ → Option (List ℕ) → ℕ
 node_after count node came = node_by count node (course_by count came)
 
--- These bytes were asked in each try, one after the other: first of one node, then where the try before sends the line.
--- None had a final reply. The last sends the line to the other node.
-abbrev pub LeadsTo : ℕ → List ℕ → ℕ → List Try → ℕ → Type 0
-LeadsTo count asked first [] next = next ≡ first
-LeadsTo count asked first (t ∷ tries) next =
-    (t.node ≡ first) × (t.asked ≡ asked) × (course_by count t.came ≢ courses.Final)
-    × LeadsTo count asked (node_after count first t.came) tries next
+-- These bytes were asked in each try, one after the other, each after a handshake where nodes have a key: first of one
+-- node, then where the try before sends the line. None had a final reply. The last sends the line to the other node.
+abbrev pub LeadsTo : ℕ → Bool → List ℕ → ℕ → List Try → ℕ → Type 0
+LeadsTo count has_key asked first [] next = next ≡ first
+LeadsTo count has_key asked first (t ∷ tries) next =
+    (t.node ≡ first) × (t.is_keyed ≡ has_key) × (t.asked ≡ asked) × (course_by count t.came ≢ courses.Final)
+    × LeadsTo count has_key asked (node_after count first t.came) tries next
 
--- the tries grow by one, in which a node was asked this line
-abbrev pub GrowsByTry : List Try → List Try → ℕ → List ℕ → Option (List ℕ) → Type 0
-GrowsByTry old new node line came =
-    new ≡ old ++ record { node = node; asked = request line; came = came } ∷ []
+-- the tries grow by one, in which a node was asked this line, after a handshake where nodes have a key
+abbrev pub GrowsByTry : List Try → List Try → ℕ → Bool → List ℕ → Option (List ℕ) → Type 0
+GrowsByTry old new node has_key line came =
+    new ≡ old ++ record { node = node; is_keyed = has_key; asked = request line; came = came } ∷ []
 
--- Nodes were asked this line alone, in the order that replies say, and none gave a final reply.
-abbrev pub Tried : ℕ → List Try → ℕ → List ℕ → List Try → ℕ → Type 0
-Tried count old first line new next =
-    (tries : List Try) × (new ≡ old ++ tries) × LeadsTo count (request line) first tries next
+-- Nodes were asked this line alone, in the order that replies say, each after a handshake where they have a key. None
+-- gave a final reply.
+abbrev pub Tried : ℕ → Bool → List Try → ℕ → List ℕ → List Try → ℕ → Type 0
+Tried count has_key old first line new next =
+    (tries : List Try) × (new ≡ old ++ tries) × LeadsTo count has_key (request line) first tries next
 
--- Nodes were asked this line alone, in the order that replies say. The last gave this reply, which is final, and none
--- before did.
-abbrev pub Answered : ℕ → List Try → ℕ → List ℕ → List ℕ → List Try → ℕ → Type 0
-Answered count old first line reply new last =
-    (tries : List Try) × (new ≡ old ++ (tries ++ record { node = last; asked = request line; came = Some reply } ∷ []))
-    × LeadsTo count (request line) first tries last × (course_of count reply ≡ courses.Final)
+-- Nodes were asked this line alone, in the order that replies say, each after a handshake where they have a key. The
+-- last gave this reply, which is final, and none before did.
+abbrev pub Answered : ℕ → Bool → List Try → ℕ → List ℕ → List ℕ → List Try → ℕ → Type 0
+Answered count has_key old first line reply new last =
+    (tries : List Try)
+    × (new ≡ old
+    ++ (tries ++ record { node = last; is_keyed = has_key; asked = request line; came = Some reply } ∷ []))
+    × LeadsTo count has_key (request line) first tries last × (course_of count reply ≡ courses.Final)
 
 -- Why a line is given up, and whether that is noted: memory was refused, or the time for its tries is over.
 abbrev pub GivenUp : Refusal → Bool → Type 0

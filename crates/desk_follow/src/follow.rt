@@ -184,17 +184,18 @@ impl Pace {
 /// It gives up where memory is refused (`WantOfMemory`), and where the time for the line's tries is over (`ReadFault`,
 /// and the follower is late). Whether the line was done is unknown then.
 impl<N: Nodes> Handler for Follower<N> {
-    ghost use Rattle.std.specs.Prelude.{ℕ};
+    ghost use Rattle.std.specs.Prelude.{ℕ, Bool};
     ghost use Rattle.desk_follow.specs.Tries.{Answered, Tried, GivenUp};
 
-    ghost answers = { λ f line reply g. Answered f.count (N.tries f.nodes) f.node line reply (N.tries g.nodes) g.node };
+    ghost answers = { λ f line reply g. Answered f.count (N.has_key f.nodes) (N.tries f.nodes) f.node line reply
+        (N.tries g.nodes) g.node };
 
-    ghost gives_up = { λ f line refusal g. Tried f.count (N.tries f.nodes) f.node line (N.tries g.nodes) g.node
-        × GivenUp refusal g.is_late };
+    ghost gives_up = { λ f line refusal g. Tried f.count (N.has_key f.nodes) (N.tries f.nodes) f.node line
+        (N.tries g.nodes) g.node × GivenUp refusal g.is_late };
 
-    ghost Preserved = { ℕ };
+    ghost Preserved = { ℕ × Bool };
 
-    ghost preserved = { λ f. f.count };
+    ghost preserved = { λ f. (f.count, N.has_key f.nodes) };
 
     fn answer(self, line: &LineBuffer) -> (Follower<N>, Result<ReplyText, Refusal>) {
         let Follower {
@@ -247,20 +248,23 @@ pub fn follow_lines<I: Read, O: Write, N: Nodes>(
     follower: Follower<N>,
 ) -> (Follower<N>, Result<(), Refusal>)
     ensures end { OnOk result.1 (IsAtEnd (I.remaining input.new)) }
-    // Each line that is not skipped was asked at nodes until its final reply came, one after the other, and exactly
-    // those replies were written.
+    // Each line that is not skipped was asked at nodes until its final reply came, one after the other, each after a
+    // handshake where they have a key, and exactly those replies were written.
     ensures ok { OnOk result.1 (IfSome (I.remaining input.old) (λ text.
-        Served (λ f line reply g. Answered f.count (N.tries f.nodes) f.node line reply (N.tries g.nodes) g.node)
+        Served (λ f line reply g. Answered f.count (N.has_key f.nodes) (N.tries f.nodes) f.node line reply
+        (N.tries g.nodes) g.node)
         follower (O.contents output.old) (lines_of text) result.0 (O.contents output.new))) }
     // That was so for the first of them. The next may have been given up, and whole replies were written unless a write
     // failed.
     ensures err { IfErr result.1 (λ r. IfSome (I.remaining input.old) (λ text.
-        BreaksOff (λ f line reply g. Answered f.count (N.tries f.nodes) f.node line reply (N.tries g.nodes) g.node)
-        (λ f line refusal g. Tried f.count (N.tries f.nodes) f.node line (N.tries g.nodes) g.node
+        BreaksOff (λ f line reply g. Answered f.count (N.has_key f.nodes) (N.tries f.nodes) f.node line reply
+        (N.tries g.nodes) g.node)
+        (λ f line refusal g. Tried f.count (N.has_key f.nodes) (N.tries f.nodes) f.node line (N.tries g.nodes) g.node
         × GivenUp refusal g.is_late)
         r follower (O.contents output.old) (lines_of text) result.0 (O.contents output.new))) }
     ensures fault { IfErr result.1 IsStreamFault }
     ensures count { result.0.count ≡ follower.count }
+    ensures key { N.has_key result.0.nodes ≡ N.has_key follower.nodes }
 {
     serve_lines(alloc, input, output, follower, &NoGate)
 }

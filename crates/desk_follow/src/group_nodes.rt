@@ -1,6 +1,6 @@
 //! The nodes of a group, over connections to their ports for sessions.
 
-ghost use Rattle.std.specs.Prelude.{◌≡◌, [], ℕ, List, None, IfOk, IfErr, IfSome};
+ghost use Rattle.std.specs.Prelude.{◌≡◌, [], ℕ, List, None, IfOk, IfErr, IfSome, is_some};
 ghost use Rattle.desk_lines.specs.Holding.{HoldsLine};
 ghost use Rattle.desk_follow.specs.Tries.{GrowsByTry, came_of};
 ghost use Rattle.desk_follow.specs.Streams.{stream_at};
@@ -57,6 +57,7 @@ impl<R: Net<Stream = TcpStream> + Clock + RandomSource + Drop> GroupNodes<R> {
         seconds: u16,
     ) -> Result<GroupNodes<R>, WantOfMemory>
         ensures tries { IfOk result (λ asked. asked.tries ≡ []) }
+        ensures address { IfOk result (λ asked. asked.address ≡ address) }
     {
         let mut streams = Vec::new(alloc);
         for _ in 0..nodes {
@@ -77,6 +78,7 @@ impl<R: Net<Stream = TcpStream> + Clock + RandomSource + Drop> GroupNodes<R> {
     #[tactic(auto, using(crate::proofs::OpenStreams::none_set, crate::proofs::OpenStreams::none_past))]
     fn take_open(&mut self, node: u8) -> Option<NodeStream>
         ensures tries { self.new.tries ≡ self.old.tries }
+        ensures address { self.new.address ≡ self.old.address }
         ensures taken { stream_at self.new.streams.items node ≡ None }
     {
         match self.streams.get_mut(node as usize) {
@@ -88,11 +90,14 @@ impl<R: Net<Stream = TcpStream> + Clock + RandomSource + Drop> GroupNodes<R> {
     /// The connection to a node: the open one where a line may be sent on it, else a new one.
     fn take_stream(&mut self, node: u8) -> Option<NodeStream>
         ensures tries { self.new.tries ≡ self.old.tries }
+        ensures address { self.new.address ≡ self.old.address }
         ensures dialled { IfSome result (λ stream. stream.node ≡ node) }
+        // To a port with a key no line goes without the handshake.
+        ensures keyed { IfSome result (λ stream. is_some stream.keyed ≡ is_some self.old.address.key) }
         ensures taken { stream_at self.new.streams.items node ≡ None }
     {
         match self.take_open(node) {
-            Some(stream) if stream.leads_to(node) => Some(stream),
+            Some(stream) if stream.leads_to(node, &self.address.key) => Some(stream),
             _ => open_stream(&self.rt, self.alloc, &self.address, node),
         }
     }
@@ -100,6 +105,7 @@ impl<R: Net<Stream = TcpStream> + Clock + RandomSource + Drop> GroupNodes<R> {
     /// Keeps the connection to a node for the next line.
     fn keep_stream(&mut self, node: u8, stream: NodeStream)
         ensures tries { self.new.tries ≡ self.old.tries }
+        ensures address { self.new.address ≡ self.old.address }
     {
         if let Some(open) = self.streams.get_mut(node as usize) {
             *open = Some(stream);
@@ -108,13 +114,16 @@ impl<R: Net<Stream = TcpStream> + Clock + RandomSource + Drop> GroupNodes<R> {
 
     /// Asks a node a line, once.
     fn ask_once(&mut self, node: u8, line: &LineBuffer) -> Result<String, NoReply>
-        ensures tried { (text : List ℕ) → HoldsLine line.now text →
-            GrowsByTry self.old.tries self.new.tries node text (came_of result) }
+        // A line goes after a handshake exactly where the group has a key.
+        ensures tried { (text : List ℕ) → HoldsLine line.now text → GrowsByTry self.old.tries self.new.tries node
+            (is_some self.old.address.key) text (came_of result) }
+        ensures address { self.new.address ≡ self.old.address }
         // No connection stays open to a node that gave no reply.
         ensures closed { IfErr result (λ _. stream_at self.new.streams.items node ≡ None) }
     {
+        let is_keyed = self.address.key.is_some();
         let Some(stream) = self.take_stream(node) else {
-            return self.tries.note(node, line, Err(NoReply::Broken));
+            return self.tries.note(node, is_keyed, line, Err(NoReply::Broken));
         };
         let (stream, reply) = stream.reply(self.alloc, line, &mut self.tries);
         if let Some(stream) = stream {
@@ -138,7 +147,11 @@ impl<R: Net<Stream = TcpStream> + Clock + RandomSource + Drop> GroupNodes<R> {
 /// Its tries are those that it notes. No contract sees the bytes of a socket: that a try sends its line alone, once, is
 /// said of any reader and writer.
 impl<R: Net<Stream = TcpStream> + Clock + RandomSource + Drop> Nodes for GroupNodes<R> {
+    ghost use Rattle.std.specs.Prelude.{is_some};
+
     ghost tries = { λ asked. asked.tries };
+
+    ghost has_key = { λ asked. is_some asked.address.key };
 
     fn begin(self) -> GroupNodes<R> {
         let mut nodes = self;

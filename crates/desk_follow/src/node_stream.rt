@@ -1,11 +1,13 @@
 //! A connection to a node's sessions.
 
-ghost use Rattle.std.specs.Prelude.{◌≡◌, ◌+◌, ◌<◌, ◌^◌, ℕ, List, IfOk, IfErr, IfSome, None, true, string_bytes};
+ghost use Rattle.std.specs.Prelude.{◌≡◌, ◌+◌, ◌<◌, ◌^◌, ℕ, List, IfOk, IfErr, IfSome, None, true, false, is_some};
+ghost use Rattle.std.specs.Prelude.{string_bytes};
 ghost use Rattle.desk_admission.specs.Hosts.{host_of};
 ghost use Rattle.desk_lines.specs.Holding.{HoldsLine};
 ghost use Rattle.desk_types.specs.declared.limits.TheConstants.{SESSION_PORTS};
 ghost use Rattle.desk_send.specs.Replies.{IsReplyLine};
 ghost use Rattle.desk_follow.specs.declared.nodes.NoReply.TheVariants as faults;
+ghost use Rattle.desk_follow.specs.Streams.{IsSealedUnder};
 ghost use Rattle.desk_follow.specs.Tries.{RepliesOver, BreaksOver, GrowsByTry, came_of};
 
 use crate::nodes::NoReply;
@@ -85,7 +87,10 @@ fn proved<R: RandomSource>(
     stream: &TcpStream,
     key: &Key,
     port: u16,
-) -> Option<KeyedStream> {
+) -> Option<KeyedStream>
+    // What is written goes as records by a key that comes of a handshake under just this one.
+    ensures sealed { IfSome result (λ keyed. IsSealedUnder key.now port keyed.output.key.block.value) }
+{
     let input = stream.try_clone().ok()?;
     let output = stream.try_clone().ok()?;
     let nonce = drawn_nonce(rt).ok()?;
@@ -93,8 +98,10 @@ fn proved<R: RandomSource>(
         key: key.copy(),
         endpoint: Endpoint::of_sessions(port),
     };
-    let (input, output) = dial(alloc, input, output, &keyed, CLIENT, &nonce).ok()?;
-    Some(KeyedStream { input, output })
+    match dial(alloc, input, output, &keyed, CLIENT, &nonce) {
+        Ok((input, output)) => Some(KeyedStream { input, output }),
+        Err(_) => None,
+    }
 }
 
 /// A new connection to the node at an address. None where it takes none, or does not show that it holds the key.
@@ -105,6 +112,10 @@ fn dialled<R: Net<Stream = TcpStream> + RandomSource>(
     key: &Option<Key>,
 ) -> Option<NodeStream>
     ensures node { IfSome result (λ stream. stream.node ≡ address.now.node) }
+    // Where there is a key, nothing goes on without the handshake.
+    ensures keyed { IfSome result (λ stream. is_some stream.keyed ≡ is_some key.now) }
+    ensures sealed { IfSome result (λ stream. IfSome stream.keyed (λ keyed. IfSome key.now (λ key.
+        IsSealedUnder key address.now.port keyed.output.key.block.value))) }
 {
     let stream = connected(rt, address.host, address.port).ok()?;
     let keyed = match key {
@@ -126,6 +137,7 @@ pub(crate) fn open_stream<R: Net<Stream = TcpStream> + RandomSource>(
     node: u8,
 ) -> Option<NodeStream>
     ensures node { IfSome result (λ stream. stream.node ≡ node) }
+    ensures keyed { IfSome result (λ stream. is_some stream.keyed ≡ is_some address.now.key) }
 {
     dialled(rt, alloc, &node_address(address, node), &address.key)
 }
@@ -193,6 +205,7 @@ fn noted_reply<I: Read + Drop, O: Write + Drop>(
     input: I,
     output: O,
     node: u8,
+    is_keyed: bool,
     line: &LineBuffer,
     tries: &mut TryLog,
 ) -> Result<String, NoReply>
@@ -201,10 +214,26 @@ fn noted_reply<I: Read + Drop, O: Write + Drop>(
     ensures broken { IfErr result (λ fault. (text : List ℕ) → HoldsLine line.now text → fault ≡ faults.Broken →
         BreaksOver (O.contents output) (I.remaining input) text) }
     ensures tried { (text : List ℕ) → HoldsLine line.now text →
-        GrowsByTry tries.old tries.new node text (came_of result) }
+        GrowsByTry tries.old tries.new node is_keyed text (came_of result) }
 {
     let reply = reply_on(alloc, input, output, line);
-    tries.note(node, line, reply)
+    tries.note(node, is_keyed, line, reply)
+}
+
+/// The same of a connection without a handshake.
+fn bare_reply(
+    alloc: Global,
+    stream: &TcpStream,
+    node: u8,
+    line: &LineBuffer,
+    tries: &mut TryLog,
+) -> Result<String, NoReply>
+    ensures whole { IfOk result (λ reply. (text : List ℕ) → HoldsLine line.now text →
+        IsReplyLine (string_bytes reply)) }
+    ensures tried { (text : List ℕ) → HoldsLine line.now text →
+        GrowsByTry tries.old tries.new node false text (came_of result) }
+{
+    noted_reply(alloc, stream, stream, node, false, line, tries)
 }
 
 /// Sends a line, and writes the reply to it.
@@ -225,13 +254,41 @@ fn send_on<I: Read + Drop, O: Write + Drop>(
     outcome
 }
 
-impl NodeStream {
-    /// Whether a line may be sent to this node on the connection: it leads there, and has not ended since the last
-    /// reply. So no line is lost on one whose node was started again.
-    pub(crate) fn leads_to(&self, node: u8) -> bool
-        ensures { result ≡ true → self.now.node ≡ node }
+impl KeyedStream {
+    /// The reply of the node to a line, which is noted as one try after a handshake: there is nothing else here that it
+    /// could go over.
+    fn reply(
+        &mut self,
+        alloc: Global,
+        node: u8,
+        line: &LineBuffer,
+        tries: &mut TryLog,
+    ) -> Result<String, NoReply>
+        ensures whole { IfOk result (λ reply. (text : List ℕ) → HoldsLine line.now text →
+            IsReplyLine (string_bytes reply)) }
+        ensures tried { (text : List ℕ) → HoldsLine line.now text →
+            GrowsByTry tries.old tries.new node true text (came_of result) }
     {
-        self.node == node && is_quiet(&self.stream)
+        noted_reply(
+            alloc,
+            &mut self.input,
+            &mut self.output,
+            node,
+            true,
+            line,
+            tries,
+        )
+    }
+}
+
+impl NodeStream {
+    /// Whether a line may be sent to this node on the connection: it leads there, with a handshake exactly where its
+    /// port has a key, and has not ended since the last reply. So no line is lost on one whose node was started again.
+    pub(crate) fn leads_to(&self, node: u8, key: &Option<Key>) -> bool
+        ensures node { result ≡ true → self.now.node ≡ node }
+        ensures keyed { result ≡ true → is_some self.now.keyed ≡ is_some key.now }
+    {
+        self.node == node && self.keyed.is_some() == key.is_some() && is_quiet(&self.stream)
     }
 
     /// The reply that the node gives to a line, which is noted as one try.
@@ -244,18 +301,11 @@ impl NodeStream {
         ensures whole { IfOk result (λ reply. (text : List ℕ) → HoldsLine line.now text →
             IsReplyLine (string_bytes reply)) }
         ensures tried { (text : List ℕ) → HoldsLine line.now text →
-            GrowsByTry tries.old tries.new self.old.node text (came_of result) }
+            GrowsByTry tries.old tries.new self.old.node (is_some self.old.keyed) text (came_of result) }
     {
         match &mut self.keyed {
-            None => noted_reply(alloc, &self.stream, &self.stream, self.node, line, tries),
-            Some(keyed) => noted_reply(
-                alloc,
-                &mut keyed.input,
-                &mut keyed.output,
-                self.node,
-                line,
-                tries,
-            ),
+            None => bare_reply(alloc, &self.stream, self.node, line, tries),
+            Some(keyed) => keyed.reply(alloc, self.node, line, tries),
         }
     }
 
@@ -270,7 +320,7 @@ impl NodeStream {
         ensures whole { IfOk result.1 (λ reply. (text : List ℕ) → HoldsLine line.now text →
             IsReplyLine (string_bytes reply)) }
         ensures tried { (text : List ℕ) → HoldsLine line.now text →
-            GrowsByTry tries.old tries.new self.node text (came_of result.1) }
+            GrowsByTry tries.old tries.new self.node (is_some self.keyed) text (came_of result.1) }
         ensures closed { IfErr result.1 (λ _. result.0 ≡ None) }
     {
         let mut stream = self;

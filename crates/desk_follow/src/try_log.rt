@@ -35,18 +35,23 @@ impl TryLog {
         }
     }
 
-    /// Notes that a node was asked a line, and what came of it, which it gives back.
+    /// Notes that a node was asked a line, whether after a handshake alone, and what came of it, which it gives back.
     pub fn note(
         &mut self,
         node: u8,
+        is_keyed: bool,
         line: &LineBuffer,
         reply: Result<String, NoReply>,
     ) -> Result<String, NoReply>
         ensures tried { (text : List ℕ) → HoldsLine line.now text →
-            GrowsByTry self.old self.new node text (came_of reply) }
+            GrowsByTry self.old self.new node is_keyed text (came_of reply) }
         ensures same { result ≡ reply }
     {
-        let came = NodeReply { node, reply };
+        let came = NodeReply {
+            node,
+            is_keyed,
+            reply,
+        };
         let entries = self.entries.and(line, &came);
         self.entries = entries;
         came.reply

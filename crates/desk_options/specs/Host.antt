@@ -1,7 +1,7 @@
 -- What the words ask for where the host's files or sockets are needed for it, and the ranges of its numbers.
 use Rattle.std.specs.Prelude.{◌<◌, ◌≤◌, ℕ, List, Option, Some, None, ⊤}
 use Rattle.desk_types.specs.Group.{IsGroupSize}
-use Rattle.desk_types.specs.declared.limits.TheConstants.{LAST_PLACE}
+use Rattle.desk_types.specs.declared.limits.TheConstants.{LAST_PLACE, LOG_ENTRIES}
 use Rattle.desk_options.specs.CommandLine.{AsksAnswer, AsksServe, AsksCluster, AsksSend, AsksStatus, AsksPage}
 use Rattle.desk_options.specs.CommandLine.{AsksLog}
 use Rattle.desk_options.specs.CommandLine.{IsPort, most_port}
@@ -28,12 +28,18 @@ abbrev pub IsFollowInRange : Option FollowOptions → Type 0
 IsFollowInRange None = ⊤
 IsFollowInRange (Some group) = IsGroupSize group.nodes × (1 ≤ group.seconds) × (group.seconds ≤ MOST_SECONDS)
 
--- the numbers of nodes, of the node, of ports, of seconds and of a place are in their ranges
+-- an epoch may have so many places
+abbrev pub FitsEpoch : ℕ → Type 0
+FitsEpoch places = (1 ≤ places) × (places ≤ LOG_ENTRIES)
+
+-- the numbers of nodes, of the node, of ports, of places and of seconds are in their ranges
 abbrev pub IsRunInRange : HostRun → Type 0
 IsRunInRange (Answer options) = IsGroupSize options.owner.n × (options.owner.id < options.owner.n)
 IsRunInRange (Serve options) =
     IsGroupSize options.owner.n × (options.owner.id < options.owner.n) × IsPort MOST_GROUP_PORT options.port
-IsRunInRange (Cluster options) = IsGroupSize options.nodes × IsPort MOST_GROUP_PORT options.port
+    × FitsEpoch options.epoch_places
+IsRunInRange (Cluster options) =
+    IsGroupSize options.nodes × IsPort MOST_GROUP_PORT options.port × FitsEpoch options.epoch_places
 IsRunInRange (Send options) = IsPort (most_port options.group) options.port × IsFollowInRange options.group
 IsRunInRange (Status options) = IsGroupSize options.nodes × IsPort MOST_GROUP_PORT options.port
 IsRunInRange (Page options) =

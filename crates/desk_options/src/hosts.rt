@@ -1,7 +1,9 @@
 //! Which hosts may be given.
 
 ghost use Rattle.std.specs.Prelude.{◌≡◌, true, false, length, All, IfNone, OnOk};
-ghost use Rattle.desk_options.specs.Hosts.{hosts_in, IsHostText, IsLoopbackText, AreHosts, AreAllowed};
+ghost use Rattle.std.specs.List.{list_all};
+ghost use Rattle.desk_options.specs.Hosts.{hosts_in, IsOfHost, IsHostText, IsLoopbackText, AreHosts};
+ghost use Rattle.desk_options.specs.Hosts.{is_of_zeros, spells_zeros, without_scope, AreAllowed};
 ghost use Rattle.desk_options.specs.Hosts.{IsSentToAllowed, HasAllowedHosts};
 
 use crate::command_line::{FollowOptions, OptionsFault};
@@ -9,13 +11,47 @@ use crate::host::HostRun;
 use std::alloc::Global;
 use std::net::IpAddr;
 
+/// Whether an address is that of no host, `0.0.0.0` or `::`, in the bytes of IPv6 too.
+fn is_of_no_host(address: &IpAddr) -> bool
+    ensures { result ≡ false → IsOfHost address.now }
+{
+    address.to_canonical().is_unspecified()
+}
+
+/// Whether all bytes are of a text that may spell zeros.
+fn are_of_zeros(bytes: &[u8]) -> bool
+    ensures { result ≡ list_all is_of_zeros bytes.now }
+{
+    bytes
+        .iter()
+        .all(|b| matches!(*b, b'0' | b'.' | b'x' | b'X'))
+}
+
+/// Whether the host would read a text, which is no address, as `0.0.0.0`: it spells only zeros.
+fn spells_zeros(text: &str) -> bool
+    ensures { result ≡ spells_zeros text.now }
+{
+    let text = text.as_bytes();
+    text.starts_with(b"0") && are_of_zeros(text)
+}
+
+/// The text without the scope that an address may end with, as in `fe80::1%eth0`.
+fn without_scope(text: &str) -> &str
+    ensures { result.now ≡ without_scope text.now }
+{
+    match text.split_once('%') {
+        Some((address, _)) => address,
+        None => text,
+    }
+}
+
 /// Whether a text can be a host: it is not empty, and no address that is none of a host.
 fn is_host(text: &str) -> bool
     ensures { result ≡ true → IsHostText text.now }
 {
-    match text.parse::<IpAddr>() {
-        Ok(address) => !address.is_unspecified(),
-        Err(_) => !text.is_empty(),
+    match without_scope(text).parse::<IpAddr>() {
+        Ok(address) => !is_of_no_host(&address),
+        Err(_) => !text.is_empty() && !spells_zeros(text),
     }
 }
 
@@ -117,8 +153,8 @@ fn check_sent_to(
     check_hosts(alloc, hosts, group.nodes, has_key)
 }
 
-/// Refuses a run whose hosts may not be given: they are as many as nodes, none is empty or `0.0.0.0` or `::`, and
-/// without a key each is an address on loopback. A single host goes by the same.
+/// Refuses a run whose hosts may not be given: they are as many as nodes, none is empty or, in any spelling, `0.0.0.0`
+/// or `::`, and without a key each is an address on loopback. A single host goes by the same.
 pub fn check_hosts_of(alloc: Global, run: &HostRun) -> Result<(), OptionsFault>
     ensures { OnOk result (HasAllowedHosts run.now) }
 {

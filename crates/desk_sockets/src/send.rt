@@ -1,10 +1,11 @@
 //! The lines that are sent to a node, or to the primary of a group.
 
-ghost use Rattle.std.specs.Prelude.{◌≡◌, ◌≤◌, IfErr, IfSome, IsOk};
+ghost use Rattle.std.specs.Prelude.{◌≡◌, ◌≤◌, IfOk, IfErr, IfSome, IsOk};
 ghost use Rattle.std.specs.Io.KnownBytes.{IsAtEnd};
 ghost use Rattle.desk_types.specs.declared.refusal.Refusal.TheVariants as refusals;
 ghost use Rattle.desk_output.specs.Telling.{TellsFirst};
 ghost use Rattle.desk_output.specs.declared.telling.TheConstants.{DONE, FAILED};
+ghost use Rattle.desk_follow.specs.Streams.{IsSealedUnder};
 ghost use Rattle.desk_follow.specs.Tries.{Answered};
 ghost use Rattle.desk_sockets.specs.Followed.{IsAnswered};
 
@@ -17,6 +18,7 @@ use desk_follow::{Follower, GroupNodes, Nodes, follow_lines};
 use desk_key::Key;
 use desk_options::{FollowOptions, SendOptions};
 use desk_output::{CountedInput, refusal_status, tell_unread};
+use desk_records::{Opened, Sealed};
 use desk_send::{NodeConnection, send_lines};
 use desk_types::Refusal;
 use std::alloc::Global;
@@ -78,6 +80,38 @@ fn connected_status<I: Read, O: Write, E: Write>(
     lines_status(alloc, port, connection, input, output, errors)
 }
 
+/// Both directions to the node that a connection was made to, once that has shown that it holds the key. Else it tells
+/// the standard error why there are none, and gives the exit status.
+fn proved_ends<'a>(
+    rt: &HostRuntime,
+    host: &str,
+    port: u16,
+    stream: &'a TcpStream,
+    key: Key,
+) -> Result<(Opened<&'a TcpStream>, Sealed<&'a TcpStream>), u8>
+    // What is written goes as records, by a key that comes of a handshake under just this one.
+    ensures sealed { IfOk result (λ ends. IsSealedUnder key port ends.1.key.block.value) }
+    ensures fault { IfErr result (λ status. status ≡ FAILED) }
+{
+    // each line goes out at once; where the host can not do that, it goes out late
+    let _ = stream.set_nodelay(true);
+    let _ = stream.set_read_timeout(Some(Duration::from_secs(PROOF_SECONDS)));
+    let Ok(nonce) = drawn_nonce(rt) else {
+        return Err(refusal_status(&mut rt.stderr(), &Refusal::ReadFault));
+    };
+    let keyed = KeyedPort {
+        key,
+        endpoint: Endpoint::of_sessions(port),
+    };
+    match dial(rt.alloc(), stream, stream, &keyed, CLIENT, &nonce) {
+        Ok((opened, sealed)) => {
+            let _ = stream.set_read_timeout(None);
+            Ok((opened, sealed))
+        }
+        Err(_) => Err(no_proof_status(&mut rt.stderr(), host, port)),
+    }
+}
+
 /// Sends the lines of the standard input to the node that a connection was made to, once that has shown that it holds
 /// the key, and answers the exit status.
 fn proved_status(rt: &HostRuntime, host: &str, port: u16, stream: &TcpStream, key: Key) -> u8
@@ -85,20 +119,10 @@ fn proved_status(rt: &HostRuntime, host: &str, port: u16, stream: &TcpStream, ke
 {
     let alloc = rt.alloc();
     let mut errors = rt.stderr();
-    // each line goes out at once; where the host can not do that, it goes out late
-    let _ = stream.set_nodelay(true);
-    let _ = stream.set_read_timeout(Some(Duration::from_secs(PROOF_SECONDS)));
-    let Ok(nonce) = drawn_nonce(rt) else {
-        return refusal_status(&mut errors, &Refusal::ReadFault);
+    let (opened, sealed) = match proved_ends(rt, host, port, stream, key) {
+        Ok(ends) => ends,
+        Err(status) => return status,
     };
-    let keyed = KeyedPort {
-        key,
-        endpoint: Endpoint::of_sessions(port),
-    };
-    let Ok((opened, sealed)) = dial(alloc, stream, stream, &keyed, CLIENT, &nonce) else {
-        return no_proof_status(&mut errors, host, port);
-    };
-    let _ = stream.set_read_timeout(None);
     let Ok(reader) = BufReader::new(alloc, opened) else {
         return refusal_status(&mut errors, &Refusal::WantOfMemory);
     };
@@ -137,10 +161,11 @@ fn followed_lines_status<I: Read, O: Write, E: Write, N: Nodes + Drop>(
     ensures status { result ≤ FAILED }
     // It ends with 0 only where the input was read to its end.
     ensures end { result ≡ DONE → IsAtEnd (I.remaining input.new.input) }
-    // Then each line that is not skipped was asked of nodes until its final reply came, one after the other, and
-    // exactly those replies were written.
+    // Then each line that is not skipped was asked of nodes until its final reply came, one after the other, each after
+    // a handshake where they have a key, and exactly those replies were written.
     ensures answered { result ≡ DONE → IfSome (I.remaining input.old.input) (λ text. IsAnswered
-        (λ f line reply g. Answered f.count (N.tries f.nodes) f.node line reply (N.tries g.nodes) g.node)
+        (λ f line reply g. Answered f.count (N.has_key f.nodes) (N.tries f.nodes) f.node line reply
+        (N.tries g.nodes) g.node)
         follower (O.contents output.old) text (O.contents output.new)) }
 {
     let (follower, outcome) = follow_lines(alloc, input, output, follower);

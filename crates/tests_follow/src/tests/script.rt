@@ -49,7 +49,11 @@ impl<'a> Scripted<'a> {
 }
 
 impl<'a> Nodes for Scripted<'a> {
+    ghost use Rattle.std.specs.Prelude.{false};
+
     ghost tries = { λ nodes. nodes.tries };
+
+    ghost has_key = { λ _. false };
 
     fn begin(self) -> Scripted<'a> {
         self
@@ -58,7 +62,7 @@ impl<'a> Nodes for Scripted<'a> {
     fn ask(self, node: u8, line: &LineBuffer) -> (Scripted<'a>, Result<String, NoReply>) {
         let mut nodes = self;
         let reply = nodes.answer(node);
-        let reply = nodes.tries.note(node, line, reply);
+        let reply = nodes.tries.note(node, false, line, reply);
         (nodes, reply)
     }
 

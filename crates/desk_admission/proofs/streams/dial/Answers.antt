@@ -2,7 +2,7 @@ use Rattle.std.proofs.Common.{◌≡◌, ℕ, List, [], ap, subst, ◌∙◌}
 use Rattle.std.specs.Io.KnownBytes.{Consumes}
 use Rattle.desk_key.specs.Hmac.{key_block}
 use Rattle.desk_records.specs.Streams.{opened_bytes}
-use Rattle.desk_admission.specs.Handshake.{challenge_bytes, hello_bytes, toward_initiator}
+use Rattle.desk_admission.specs.Handshake.{challenge_bytes, hello_bytes, toward_acceptor, toward_initiator}
 use Rattle.desk_admission.proofs.streams.dial.Goals as goal
 
 pub returns : goal.returns
@@ -15,6 +15,8 @@ returns g c =
     let key : c.for_tags-key.result.block.value ≡ block = c.for_tags-key.ensures in
     let receiving : c.in_ok-keys.keys.receiving.block.value ≡ toward_initiator block hello proved.nonce =
     proved.receiving_is ∙ ap (λ b. toward_initiator b hello proved.nonce) key in
+    let sending : c.in_ok-keys.keys.sending.block.value ≡ toward_acceptor block hello proved.nonce =
+    proved.sending_is ∙ ap (λ b. toward_acceptor b hello proved.nonce) key in
     record {
       challenged = record {
         nonce = proved.nonce;
@@ -22,4 +24,5 @@ returns g c =
         heard = subst (λ b. Consumes came left (challenge_bytes b hello proved.nonce)) key proved.heard;
         given_is = c.in_ok-input.ensures.opened ∙ ap (λ b. opened_bytes b 0 [] [] left) receiving;
       };
+      sealed = (proved.nonce, c.in_ok-input.ensures.sealed ∙ sending);
     }
