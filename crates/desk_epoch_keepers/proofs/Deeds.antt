@@ -1,8 +1,7 @@
--- What a step of a node over epochs leaves behind it, what it tells and takes, and what is sent for it.
-use Rattle.std.proofs.Common.{◌≡◌, ◌<◌, ◌+◌, ℕ, Bool, true, false, cond, eqb, ltb, List, [], ◌∷◌, ◌++◌}
+-- What a step of a node over epochs leaves behind it, what it takes, and what is sent for it.
+use Rattle.std.proofs.Common.{◌≡◌, ◌+◌, ℕ, Bool, true, false, cond, eqb, ltb, List, [], ◌∷◌, ◌++◌}
 use Rattle.std.proofs.Common.{refl, sym, ap, ◌∙◌, subst}
 use Rattle.std.specs.List.{Contains}
-use Rattle.std.proofs.lemmas.Bool.{ltb-true}
 use Rattle.std.proofs.lemmas.List.{length_push}
 use Rattle.desk_types.specs.declared.command.Entry.{Entry}
 use Rattle.desk_types.specs.declared.epoch_packet.EpochPacket.{EpochPacket}
@@ -135,182 +134,176 @@ deed_has most i logs (Take base entries) step old new has d =
     taken_has most i (is_rest old base entries) logs (whole_log old base entries) step old new has d
 deed_has most i logs Stop step old new has d = only_has most i logs _ step old new refl has d
 
--- The deed tells no log but of an epoch before this one, and takes one only where that may be.
-abbrev pub TellsAndTakes : ℕ → Bool → Deed → Type 0
-TellsAndTakes k may (Tell to epoch base) = epoch < k
-TellsAndTakes k may (Take base entries) = may ≡ true
-TellsAndTakes k may asked = Unit {0}
+-- The deed takes a log only where that may be.
+abbrev pub TakesWhere : Bool → Deed → Type 0
+TakesWhere may (Take base entries) = may ≡ true
+TakesWhere may asked = Unit {0}
 
 -- The same of a step.
-abbrev pub ToldAndTook : ℕ → Bool → EpochStep → Type 0
-ToldAndTook k may (steps.Tell to epoch base) = epoch < k
-ToldAndTook k may (steps.Began log packets) = may ≡ true
-ToldAndTook k may made = Unit {0}
+abbrev pub TookWhere : Bool → EpochStep → Type 0
+TookWhere may (steps.Began log packets) = may ≡ true
+TookWhere may made = Unit {0}
 
 -- whether it is a message that tells a log
 abbrev pub tells_log : Message → Bool
 tells_log (NewState from view base commit entries) = true
 tells_log message = false
 
-either_tells : (k : ℕ) (may b : Bool) (x y : Deed) → TellsAndTakes k may x → TellsAndTakes k may y →
-    TellsAndTakes k may (cond b x y)
-either_tells k may true x y h j = h
-either_tells k may false x y h j = j
+either_takes : (may b : Bool) (x y : Deed) → TakesWhere may x → TakesWhere may y →
+    TakesWhere may (cond b x y)
+either_takes may true x y h j = h
+either_takes may false x y h j = j
 
-here_tells : (k : ℕ) (may : Bool) (e : EpochValue) (entry : Entry) → TellsAndTakes k may (deed_here e entry)
-here_tells k may e entry =
-    either_tells k may (reaches_end e.most e.node.saved.log) _ _ (either_tells k may (has_next e) _ _ tt tt) tt
+here_takes : (may : Bool) (e : EpochValue) (entry : Entry) → TakesWhere may (deed_here e entry)
+here_takes may e entry =
+    either_takes may (reaches_end e.most e.node.saved.log) _ _ (either_takes may (has_next e) _ _ tt tt) tt
 
-by_tells : (k : ℕ) (may : Bool) (e : EpochValue) (entry : Entry) (a : Admission) →
-    TellsAndTakes k may (deed_by e entry a)
-by_tells k may e entry (admissions.Retry place) = tt
-by_tells k may e entry (admissions.Stale number) = tt
-by_tells k may e entry admissions.Append = here_tells k may e entry
-by_tells k may e entry admissions.Full = here_tells k may e entry
+by_takes : (may : Bool) (e : EpochValue) (entry : Entry) (a : Admission) →
+    TakesWhere may (deed_by e entry a)
+by_takes may e entry (admissions.Retry place) = tt
+by_takes may e entry (admissions.Stale number) = tt
+by_takes may e entry admissions.Append = here_takes may e entry
+by_takes may e entry admissions.Full = here_takes may e entry
 
-other_tells : (k : ℕ) (may : Bool) (e : EpochValue) (from : ℕ) → TellsAndTakes k may (asks_other e from)
-other_tells k may e from = either_tells k may (is_other e from) _ _ tt tt
+other_takes : (may : Bool) (e : EpochValue) (from : ℕ) → TakesWhere may (asks_other e from)
+other_takes may e from = either_takes may (is_other e from) _ _ tt tt
 
-telling_tells : (k : ℕ) (may : Bool) (e : EpochValue) (epoch : ℕ) (packet : Message) → epoch < k →
-    TellsAndTakes k may (telling e epoch packet)
-telling_tells k may e epoch (GetState from view base) h = either_tells k may (is_other e from) _ _ h tt
-telling_tells k may e epoch (Prepare from view place commit entry) h = tt
-telling_tells k may e epoch (PrepareOk from view place) h = tt
-telling_tells k may e epoch (Commit from view commit) h = tt
-telling_tells k may e epoch (StartViewChange from view) h = tt
-telling_tells k may e epoch (DoViewChange from view normal commit log) h = tt
-telling_tells k may e epoch (StartView from view commit log) h = tt
-telling_tells k may e epoch (NewState from view base commit entries) h = tt
+telling_takes : (may : Bool) (e : EpochValue) (epoch : ℕ) (packet : Message) →
+    TakesWhere may (telling e epoch packet)
+telling_takes may e epoch (GetState from view base) = either_takes may (is_other e from) _ _ tt tt
+telling_takes may e epoch (Prepare from view place commit entry) = tt
+telling_takes may e epoch (PrepareOk from view place) = tt
+telling_takes may e epoch (Commit from view commit) = tt
+telling_takes may e epoch (StartViewChange from view) = tt
+telling_takes may e epoch (DoViewChange from view normal commit log) = tt
+telling_takes may e epoch (StartView from view commit log) = tt
+telling_takes may e epoch (NewState from view base commit entries) = tt
 
-taking_tells : (k : ℕ) (packet : Message) → TellsAndTakes k (tells_log packet) (taking packet)
-taking_tells k (GetState from view base) = tt
-taking_tells k (Prepare from view place commit entry) = tt
-taking_tells k (PrepareOk from view place) = tt
-taking_tells k (Commit from view commit) = tt
-taking_tells k (StartViewChange from view) = tt
-taking_tells k (DoViewChange from view normal commit log) = tt
-taking_tells k (StartView from view commit log) = tt
-taking_tells k (NewState from view base commit entries) = refl
+taking_takes : (packet : Message) → TakesWhere (tells_log packet) (taking packet)
+taking_takes (GetState from view base) = tt
+taking_takes (Prepare from view place commit entry) = tt
+taking_takes (PrepareOk from view place) = tt
+taking_takes (Commit from view commit) = tt
+taking_takes (StartViewChange from view) = tt
+taking_takes (DoViewChange from view normal commit log) = tt
+taking_takes (StartView from view commit log) = tt
+taking_takes (NewState from view base commit entries) = refl
 
-packet_tells : (e : EpochValue) (purpose : Purpose) (epoch : ℕ) (packet : Message) →
-    TellsAndTakes e.epoch (tells_log packet) (packet_deed e purpose epoch packet)
-packet_tells e purposes.Step epoch packet =
-    either_tells e.epoch (tells_log packet) (eqb epoch e.epoch) _ _ tt
-    (other_tells e.epoch (tells_log packet) e (sender packet))
-packet_tells e purposes.Ask epoch packet = by_epoch (ltb epoch e.epoch) refl
-  where
-    by_epoch : (b : Bool) → ltb epoch e.epoch ≡ b → TellsAndTakes e.epoch (tells_log packet)
-        (cond b (telling e epoch packet) (cond (eqb epoch e.epoch) Ignore (asks_other e (sender packet))))
-    by_epoch true h =
-        telling_tells e.epoch (tells_log packet) e epoch packet (ltb-true epoch e.epoch h)
-    by_epoch false h =
-        either_tells e.epoch (tells_log packet) (eqb epoch e.epoch) _ _ tt
-        (other_tells e.epoch (tells_log packet) e (sender packet))
-packet_tells e purposes.Tell epoch packet =
-    either_tells e.epoch (tells_log packet) (eqb epoch e.epoch) _ _ (taking_tells e.epoch packet) tt
+packet_takes : (e : EpochValue) (purpose : Purpose) (epoch : ℕ) (packet : Message) →
+    TakesWhere (tells_log packet) (packet_deed e purpose epoch packet)
+packet_takes e purposes.Step epoch packet =
+    either_takes (tells_log packet) (eqb epoch e.epoch) _ _ tt
+    (other_takes (tells_log packet) e (sender packet))
+packet_takes e purposes.Ask epoch packet =
+    either_takes (tells_log packet) (ltb epoch e.epoch) _ _
+    (telling_takes (tells_log packet) e epoch packet)
+    (either_takes (tells_log packet) (eqb epoch e.epoch) _ _ tt
+    (other_takes (tells_log packet) e (sender packet)))
+packet_takes e purposes.Tell epoch packet =
+    either_takes (tells_log packet) (eqb epoch e.epoch) _ _ (taking_takes packet) tt
 
-later_tells : (e : EpochValue) (epoch : ℕ) (packet : Message) →
-    TellsAndTakes e.epoch (tells_log packet) (asks_later e epoch packet)
-later_tells e epoch packet =
-    either_tells e.epoch (tells_log packet) (ltb e.epoch epoch) _ _
-    (other_tells e.epoch (tells_log packet) e (sender packet)) tt
+later_takes : (e : EpochValue) (epoch : ℕ) (packet : Message) →
+    TakesWhere (tells_log packet) (asks_later e epoch packet)
+later_takes e epoch packet =
+    either_takes (tells_log packet) (ltb e.epoch epoch) _ _
+    (other_takes (tells_log packet) e (sender packet)) tt
 
-awaiting_tells : (e : EpochValue) (purpose : Purpose) (epoch : ℕ) (packet : Message) →
-    TellsAndTakes e.epoch (tells_log packet) (awaiting_packet e purpose epoch packet)
-awaiting_tells e purposes.Step epoch packet = later_tells e epoch packet
-awaiting_tells e purposes.Ask epoch packet = later_tells e epoch packet
-awaiting_tells e purposes.Tell epoch packet =
-    either_tells e.epoch (tells_log packet) (eqb epoch e.epoch) _ _ (taking_tells e.epoch packet) tt
+awaiting_takes : (e : EpochValue) (purpose : Purpose) (epoch : ℕ) (packet : Message) →
+    TakesWhere (tells_log packet) (awaiting_packet e purpose epoch packet)
+awaiting_takes e purposes.Step epoch packet = later_takes e epoch packet
+awaiting_takes e purposes.Ask epoch packet = later_takes e epoch packet
+awaiting_takes e purposes.Tell epoch packet =
+    either_takes (tells_log packet) (eqb epoch e.epoch) _ _ (taking_takes packet) tt
 
 -- whether what comes may tell a log
 abbrev pub event_tells : EpochEvent → Bool
 event_tells (comes.Packet p) = tells_log p.packet
 event_tells event = false
 
-pub deed_tells : (s : Standing) (past : List Entry) (e : EpochValue) (event : EpochEvent) →
-    TellsAndTakes e.epoch (event_tells event) (deed_under s past e event)
-deed_tells Acts past e (comes.Request entry) =
-    either_tells e.epoch false (looks_back e entry) _ _
-    (by_tells e.epoch false e entry (one_log_admission past e.node.saved.log entry.client entry.number))
-    (here_tells e.epoch false e entry)
-deed_tells Acts past e (comes.Packet p) = packet_tells e p.purpose p.epoch p.packet
-deed_tells Acts past e comes.Resend = tt
-deed_tells Acts past e comes.Suspect = tt
-deed_tells Acts past e comes.Restart = tt
-deed_tells Awaits past e (comes.Request entry) = tt
-deed_tells Awaits past e (comes.Packet p) = awaiting_tells e p.purpose p.epoch p.packet
-deed_tells Awaits past e comes.Resend = tt
-deed_tells Awaits past e comes.Suspect = tt
-deed_tells Awaits past e comes.Restart = tt
-deed_tells Replaced past e (comes.Request entry) = tt
-deed_tells Replaced past e (comes.Packet p) = tt
-deed_tells Replaced past e comes.Resend = tt
-deed_tells Replaced past e comes.Suspect = tt
-deed_tells Replaced past e comes.Restart = tt
+pub deed_takes : (s : Standing) (past : List Entry) (e : EpochValue) (event : EpochEvent) →
+    TakesWhere (event_tells event) (deed_under s past e event)
+deed_takes Acts past e (comes.Request entry) =
+    either_takes false (looks_back e entry) _ _
+    (by_takes false e entry (one_log_admission past e.node.saved.log entry.client entry.number))
+    (here_takes false e entry)
+deed_takes Acts past e (comes.Packet p) = packet_takes e p.purpose p.epoch p.packet
+deed_takes Acts past e comes.Resend = tt
+deed_takes Acts past e comes.Suspect = tt
+deed_takes Acts past e comes.Restart = tt
+deed_takes Awaits past e (comes.Request entry) = tt
+deed_takes Awaits past e (comes.Packet p) = awaiting_takes e p.purpose p.epoch p.packet
+deed_takes Awaits past e comes.Resend = tt
+deed_takes Awaits past e comes.Suspect = tt
+deed_takes Awaits past e comes.Restart = tt
+deed_takes Replaced past e (comes.Request entry) = tt
+deed_takes Replaced past e (comes.Packet p) = tt
+deed_takes Replaced past e comes.Resend = tt
+deed_takes Replaced past e comes.Suspect = tt
+deed_takes Replaced past e comes.Restart = tt
 
 -- a step by which the node stays as it is
-only_told : (k : ℕ) (may : Bool) (asked step : EpochStep) (old new : EpochValue) → ToldAndTook k may asked →
-    Only asked old new step → ToldAndTook k may step
-only_told k may asked step old new h only = subst (λ (x : EpochStep). ToldAndTook k may x) (sym only.0) h
+only_took : (may : Bool) (asked step : EpochStep) (old new : EpochValue) → TookWhere may asked →
+    Only asked old new step → TookWhere may step
+only_took may asked step old new h only = subst (λ (x : EpochStep). TookWhere may x) (sym only.0) h
 
-own_told : (k : ℕ) (may : Bool) (event : Event) (step : EpochStep) (old new : EpochValue) →
-    IsOwn old event new step → ToldAndTook k may step
-own_told k may event (steps.Own made) old new o = tt
-own_told k may event steps.Nothing old new o = tt
-own_told k may event (steps.Known client number place) old new o = tt
-own_told k may event (steps.Refused client number refusal) old new o = tt
-own_told k may event (steps.Deferred entry) old new o = tt
-own_told k may event (steps.Ask to packet) old new o = tt
-own_told k may event (steps.AskAll packets) old new o = tt
-own_told k may event (steps.Tell to epoch base) old new o = absurd o
-own_told k may event (steps.Began log packets) old new o = absurd o
-own_told k may event steps.Replaced old new o = tt
+own_took : (may : Bool) (event : Event) (step : EpochStep) (old new : EpochValue) →
+    IsOwn old event new step → TookWhere may step
+own_took may event (steps.Own made) old new o = tt
+own_took may event steps.Nothing old new o = tt
+own_took may event (steps.Known client number place) old new o = tt
+own_took may event (steps.Refused client number refusal) old new o = tt
+own_took may event (steps.Deferred entry) old new o = tt
+own_took may event (steps.Ask to packet) old new o = tt
+own_took may event (steps.AskAll packets) old new o = tt
+own_took may event (steps.Tell to epoch base) old new o = absurd o
+own_took may event (steps.Began log packets) old new o = absurd o
+own_took may event steps.Replaced old new o = tt
 
-ask_all_told : (k : ℕ) (may : Bool) (step : EpochStep) (old new : EpochValue) → IsAskAll old new step →
-    ToldAndTook k may step
-ask_all_told k may (steps.Own made) old new o = tt
-ask_all_told k may steps.Nothing old new o = tt
-ask_all_told k may (steps.Known client number place) old new o = tt
-ask_all_told k may (steps.Refused client number refusal) old new o = tt
-ask_all_told k may (steps.Deferred entry) old new o = tt
-ask_all_told k may (steps.Ask to packet) old new o = tt
-ask_all_told k may (steps.AskAll packets) old new o = tt
-ask_all_told k may (steps.Tell to epoch base) old new o = absurd o
-ask_all_told k may (steps.Began log packets) old new o = absurd o
-ask_all_told k may steps.Replaced old new o = tt
+ask_all_took : (may : Bool) (step : EpochStep) (old new : EpochValue) → IsAskAll old new step →
+    TookWhere may step
+ask_all_took may (steps.Own made) old new o = tt
+ask_all_took may steps.Nothing old new o = tt
+ask_all_took may (steps.Known client number place) old new o = tt
+ask_all_took may (steps.Refused client number refusal) old new o = tt
+ask_all_took may (steps.Deferred entry) old new o = tt
+ask_all_took may (steps.Ask to packet) old new o = tt
+ask_all_took may (steps.AskAll packets) old new o = tt
+ask_all_took may (steps.Tell to epoch base) old new o = absurd o
+ask_all_took may (steps.Began log packets) old new o = absurd o
+ask_all_took may steps.Replaced old new o = tt
 
-begun_told : (k : ℕ) (may : Bool) (past whole : List Entry) (step : EpochStep) (old new : EpochValue) → may ≡ true →
-    IsBegun past whole old new step → ToldAndTook k may step
-begun_told k may past whole (steps.Began log packets) old new h o = h
-begun_told k may past whole steps.Nothing old new h o = tt
-begun_told k may past whole (steps.Own made) old new h o = tt
-begun_told k may past whole (steps.Known client number place) old new h o = tt
-begun_told k may past whole (steps.Refused client number refusal) old new h o = tt
-begun_told k may past whole (steps.Deferred entry) old new h o = tt
-begun_told k may past whole (steps.Ask to packet) old new h o = tt
-begun_told k may past whole (steps.AskAll packets) old new h o = tt
-begun_told k may past whole (steps.Tell to epoch base) old new h o = absurd o
-begun_told k may past whole steps.Replaced old new h o = tt
+begun_took : (may : Bool) (past whole : List Entry) (step : EpochStep) (old new : EpochValue) → may ≡ true →
+    IsBegun past whole old new step → TookWhere may step
+begun_took may past whole (steps.Began log packets) old new h o = h
+begun_took may past whole steps.Nothing old new h o = tt
+begun_took may past whole (steps.Own made) old new h o = tt
+begun_took may past whole (steps.Known client number place) old new h o = tt
+begun_took may past whole (steps.Refused client number refusal) old new h o = tt
+begun_took may past whole (steps.Deferred entry) old new h o = tt
+begun_took may past whole (steps.Ask to packet) old new h o = tt
+begun_took may past whole (steps.AskAll packets) old new h o = tt
+begun_took may past whole (steps.Tell to epoch base) old new h o = absurd o
+begun_took may past whole steps.Replaced old new h o = tt
 
-taken_told : (rest : Bool) (k : ℕ) (may : Bool) (past whole : List Entry) (step : EpochStep) (old new : EpochValue) →
-    may ≡ true → IsTaken rest past whole old new step → ToldAndTook k may step
-taken_told true k may past whole step old new h o = begun_told k may past whole step old new h o
-taken_told false k may past whole step old new h o = only_told k may steps.Nothing step old new tt o
+taken_took : (rest : Bool) (may : Bool) (past whole : List Entry) (step : EpochStep) (old new : EpochValue) →
+    may ≡ true → IsTaken rest past whole old new step → TookWhere may step
+taken_took true may past whole step old new h o = begun_took may past whole step old new h o
+taken_took false may past whole step old new h o = only_took may steps.Nothing step old new tt o
 
--- A step tells and takes what was asked.
-pub does_told : (k : ℕ) (may : Bool) (past : List Entry) (asked : Deed) (step : EpochStep) (old new : EpochValue) →
-    TellsAndTakes k may asked → DoesDeed past asked old new step → ToldAndTook k may step
-does_told k may past Ignore step old new h d = only_told k may _ step old new tt d
-does_told k may past (Own event) step old new h d = own_told k may event step old new d
-does_told k may past (Answer client number place) step old new h d = only_told k may _ step old new tt d
-does_told k may past (Refuse client number refusal) step old new h d = only_told k may _ step old new tt d
-does_told k may past (Keep entry) step old new h d = only_told k may _ step old new tt d
-does_told k may past (Ask to) step old new h d = only_told k may _ step old new tt d
-does_told k may past AskAll step old new h d = ask_all_told k may step old new d
-does_told k may past (Tell to epoch base) step old new h d = only_told k may _ step old new h d
-does_told k may past (Take base entries) step old new h d =
-    taken_told (is_rest old base entries) k may past (whole_log old base entries) step old new h d
-does_told k may past Stop step old new h d = only_told k may _ step old new tt d
+-- A step takes what was asked.
+pub does_took : (may : Bool) (past : List Entry) (asked : Deed) (step : EpochStep) (old new : EpochValue) →
+    TakesWhere may asked → DoesDeed past asked old new step → TookWhere may step
+does_took may past Ignore step old new h d = only_took may _ step old new tt d
+does_took may past (Own event) step old new h d = own_took may event step old new d
+does_took may past (Answer client number place) step old new h d = only_took may _ step old new tt d
+does_took may past (Refuse client number refusal) step old new h d = only_took may _ step old new tt d
+does_took may past (Keep entry) step old new h d = only_took may _ step old new tt d
+does_took may past (Ask to) step old new h d = only_took may _ step old new tt d
+does_took may past AskAll step old new h d = ask_all_took may step old new d
+does_took may past (Tell to epoch base) step old new h d = only_took may _ step old new h d
+does_took may past (Take base entries) step old new h d =
+    taken_took (is_rest old base entries) may past (whole_log old base entries) step old new h d
+does_took may past Stop step old new h d = only_took may _ step old new tt d
 
 -- what goes out at once for a step was sent by it
 

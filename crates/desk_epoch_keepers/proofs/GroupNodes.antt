@@ -1,6 +1,6 @@
 -- What happens in a group of keepers, as acts of nodes over epochs.
 use Rattle.std.proofs.Common.{◌≡◌, ◌≢◌, ◌⊎◌, ◌<◌, ◌+◌, ℕ, Bool, true, false, cond, eqb, List, [], ◌∷◌, ◌++◌, take, refl}
-use Rattle.std.proofs.Common.{sym, ap, ◌∙◌, inl, inr, ⊎_elim, subst, arith, MatchBool, Some}
+use Rattle.std.proofs.Common.{sym, ap, ◌∙◌, inl, inr, ⊎_elim, subst, arith, MatchBool}
 use Rattle.std.specs.List.{AllByRecursion, Contains}
 use Rattle.std.proofs.lemmas.Bool.{cases_eq, eq-eqb, ne_eqb}
 use Rattle.std.proofs.lemmas.List.{length_push, take-append-drop}
@@ -16,7 +16,6 @@ use Rattle.desk_world.proofs.Packets.{Contains-none}
 use Rattle.desk_epoch_node.specs.Does.{is_due}
 use Rattle.desk_epoch_node.specs.EpochValue.{EpochValue, committed_cut}
 use Rattle.desk_epoch_node.specs.PastRows.{StandFor}
-use Rattle.desk_epoch_stores.specs.Starting.{saved_cut}
 use Rattle.desk_epoch_replica.specs.declared.deferring_replica.DeferringReplica.{DeferringReplica}
 use Rattle.desk_epoch_replica.specs.DeferringSaves.{BeginsDeferring, deferring_saving, reported_of}
 use Rattle.desk_epoch_replica.specs.MemberValue.{MemberValue}
@@ -26,7 +25,7 @@ use Rattle.desk_epoch_keepers.specs.Agreement.{KeepersAreNodes, KeepersMakeNodes
 use Rattle.desk_threads.specs.Replicas.{MeetsItems}
 use Rattle.desk_threads.specs.SavedItems.{SavesAndForgets}
 use Rattle.desk_epoch_keepers.specs.Group.{EpochKeepers, KeeperAct, Takes, Breaks, BreaksBetween, Advances}
-use Rattle.desk_epoch_keepers.specs.Group.{BreaksAdvanced, Restarts, AreFirstKeepers, FindsLogs, KeeperActLeads}
+use Rattle.desk_epoch_keepers.specs.Group.{BreaksAdvanced, Restarts, AreFirstKeepers, KeeperActLeads}
 use Rattle.desk_epoch_keepers.specs.Group.{IsStarted}
 use Rattle.desk_epoch_keepers.specs.Group.{EpochKeeperBecomes, KeepersRun, OneEpochTurn, StartsAfter, WasHandedToNode}
 use Rattle.desk_epoch_keepers.specs.Group.{from_saved}
@@ -34,7 +33,7 @@ use Rattle.desk_epoch_keepers.specs.Group.{in_next_epoch, logs_after_begin, logs
 use Rattle.desk_epoch_keepers.specs.Group.{replica_ghosts}
 use Rattle.desk_epoch_keepers.proofs.Moves.{HasLogs, Moved, OnlyMeets, Stands, acts_on, moved_as, moved_none}
 use Rattle.desk_epoch_keepers.proofs.Moves.{moved_then}
-use Rattle.desk_epoch_keepers.proofs.ReplicaMoves.{CameMail, FindsPast, WasSentMail}
+use Rattle.desk_epoch_keepers.proofs.ReplicaMoves.{CameMail, WasSentMail}
 use Rattle.desk_epoch_keepers.proofs.Starts.{begins_moves, start_moves, starts_moves}
 use Rattle.desk_epoch_keepers.proofs.TurnMoves.{HeldCome, broken_moves, logs_of_turn, turn_held, turn_moves}
 
@@ -146,15 +145,6 @@ all_sent : (handed sent : List (ℕ × EpochPacket)) (i : ℕ) (turn : List Item
 all_sent handed sent i [] f h = tt
 all_sent handed sent i (item ∷ more) f h = (handed_sent handed sent i item f h.0, all_sent handed sent i more f h.1)
 
-finds_past : {T S : Type 0} (may_hold : T → ℕ → SavedValue → Type 0) (most i : ℕ) (r : DeferringReplica T S)
-    (logs : List (List Entry)) → HasLogs most i (replica_node r) logs → FindsLogs may_hold r logs →
-    FindsPast may_hold most r.replica.stores logs
-finds_past may_hold most i r logs has finds = λ epoch s before held.
-    let found = finds epoch s (subst (λ k. epoch < k) (sym has.epoch_is) before) held in (
-      found.0 ∙ ap (λ k. Some (saved_cut k s)) has.most_is,
-      λ all. sym (ap (λ k. saved_cut k s) has.most_is) ∙ found.1 all,
-    )
-
 -- what a turn makes of a replica in memory
 record TurnMade {T S : Type 0} (Came : Entry → Type 0) (n most i : ℕ) (g : EpochNodes) (logs : List (List Entry))
     (made : DeferringReplica T S) (packets : List (ℕ × EpochPacket)) : Type 0 where
@@ -176,7 +166,7 @@ turn_made {T} {S} may_hold Came n most i old g turn packets made small comes cam
     (subst (λ (xs : List Item). AllByRecursion (WasSentMail g.sent i) xs) turn_is
     (all_sent old.handed g.sent i turn stands.sent t.handed))
     (subst (λ (xs : List Item). AllByRecursion (CameMail Came) xs) turn_is came)
-    (stands.held i) (finds_past may_hold most i r logs (stands.has i) t.finds) none
+    (stands.held i) t.tells none
     (subst (λ (xs : List Item). MeetsItems (replica_ghosts may_hold) r xs packets t.answers made) turn_is t.does) in
     record {
       moved = subst (λ (ls : List (List Entry)). Moved Came n most i g (replica_node made) ls packets)
@@ -248,14 +238,14 @@ record Advanced {T S : Type 0} (Came : Entry → Type 0) (n most i : ℕ) (g : E
   saved : new.replica.unsaved ≡ false
   deferred_is : new.deferred ≡ old.deferred
 
-begin_logs : {T S : Type 0} (logs : List (List Entry)) (old new : DeferringReplica T S) →
+pub begin_logs : {T S : Type 0} (logs : List (List Entry)) (old new : DeferringReplica T S) →
     (replica_node new).epoch ≡ (replica_node old).epoch + 1 →
     logs ++ committed_cut (replica_node old) ∷ [] ≡ logs_after_begin logs old new
 begin_logs logs old new next =
     sym (ap (λ b. cond b logs (logs ++ committed_cut (replica_node old) ∷ []))
     (ne_eqb (replica_node new).epoch (replica_node old).epoch (λ same. omega (arith, next, same))))
 
-same_logs : {T S : Type 0} (logs : List (List Entry)) (old new : DeferringReplica T S) →
+pub same_logs : {T S : Type 0} (logs : List (List Entry)) (old new : DeferringReplica T S) →
     replica_node new ≡ replica_node old → logs ≡ logs_after_begin logs old new
 same_logs logs old new same =
     sym (ap (λ b. cond b logs (logs ++ committed_cut (replica_node old) ∷ []))
@@ -365,7 +355,7 @@ act_goes_on {T} {S} may_hold h Came n most old new g (BreaksBetween i turn) come
     (subst (λ (xs : List Item). AllByRecursion (WasSentMail g.sent i) xs) turn_is
     (all_sent old.handed g.sent i turn stands.sent t.handed))
     (subst (λ (xs : List Item). AllByRecursion (CameMail Came) xs) turn_is came)
-    (stands.held i) (finds_past may_hold most i r logs (stands.has i) t.finds) none (stands.saved i)
+    (stands.held i) t.tells none (stands.saved i)
     (subst (λ (xs : List Item). MeetsItems (replica_ghosts may_hold) r xs packets t.answers made) turn_is t.does)
     unsaved) in
     let k =

@@ -9,3 +9,6 @@ pub mod Growing
 pub mod Published
 pub mod OneHistory
 pub mod Rows
+pub mod HistoryFronts
+pub mod TurnActs
+pub mod OpenedStarts

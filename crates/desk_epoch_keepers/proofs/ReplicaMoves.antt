@@ -1,21 +1,23 @@
 -- What an item makes of a replica over epochs, as acts of its node.
-use Rattle.std.proofs.Common.{◌≡◌, ◌⊎◌, ◌<◌, ℕ, Bool, true, false, not, ◌&&◌, cond, List, [], ◌∷◌, ◌++◌, length}
-use Rattle.std.proofs.Common.{map}
+use Rattle.std.proofs.Common.{◌≡◌, ◌⊎◌, ℕ, Bool, true, false, not, ◌&&◌, cond, List, [], ◌∷◌, ◌++◌, length}
+use Rattle.std.proofs.Common.{map, drop, leb}
 use Rattle.std.proofs.Common.{MatchOption, Option, Some, None, refl, sym, ap, ◌∙◌, inl, inr, ⊎_elim, subst, slice_get}
 use Rattle.std.proofs.Common.{option_to_list}
 use Rattle.std.specs.List.{Contains, AllByRecursion}
 use Rattle.std.proofs.lemmas.List.{map-append}
+use Rattle.std.proofs.lemmas.List.Elements.{Contains-append_left, Contains-append_right}
 use Rattle.desk_types.specs.declared.command.Entry.{Entry}
 use Rattle.desk_types.specs.declared.epoch_packet.EpochPacket.{EpochPacket}
 use Rattle.desk_types.specs.declared.epoch_packet.Purpose.TheVariants as purposes
 use Rattle.desk_types.specs.declared.outcome.Outcome.{Outcome}
 use Rattle.desk_types.specs.declared.packet.Message.{Message}
+use Rattle.desk_types.specs.declared.packet.Message.TheVariants.{NewState}
 use Rattle.desk_log.specs.SavedValue.{SavedValue}
 use Rattle.desk_mailbox.specs.declared.item.Item.{Item}
 use Rattle.desk_mailbox.specs.declared.item.Item.TheVariants as mail
 use Rattle.desk_replica.specs.EpochPackets.{packets_under}
 use Rattle.desk_replica.specs.declared.answer.Answer.{Answer}
-use Rattle.desk_world.proofs.Packets.{Contains-none}
+use Rattle.desk_world.proofs.Packets.{Contains-none, Contains-here}
 use Rattle.desk_epochs.specs.Epochs.{joined_logs}
 use Rattle.desk_epoch_node.specs.declared.deed.Deed.{Deed}
 use Rattle.desk_epoch_node.specs.declared.deed.Deed.TheVariants.{Ignore}
@@ -26,7 +28,6 @@ use Rattle.desk_epoch_node.specs.declared.step.EpochStep.TheVariants as steps
 use Rattle.desk_epoch_node.specs.Deeds.{deed}
 use Rattle.desk_epoch_node.specs.Does.{DoesDeed}
 use Rattle.desk_epoch_node.specs.EpochValue.{EpochValue, standing_of}
-use Rattle.desk_epoch_stores.specs.Starting.{MayHoldNoMore, saved_cut}
 use Rattle.desk_epoch_replica.specs.declared.deferring_replica.DeferringReplica.{DeferringReplica}
 use Rattle.desk_epoch_replica.specs.declared.item.EpochItem.{EpochItem}
 use Rattle.desk_epoch_replica.specs.declared.item.EpochItem.TheVariants as items
@@ -44,7 +45,8 @@ use Rattle.desk_epoch_replica.specs.Steps.{may_ask, may_tell, reported_log, step
 use Rattle.desk_epoch_group.specs.Group.{EpochNodes, EpochAct, Meets, WasSentBefore, epoch_packets_of, logs_after}
 use Rattle.desk_epoch_group.specs.Group.{NodeBecomes, past_packet}
 use Rattle.desk_epoch_group.specs.Group.{telling_packets}
-use Rattle.desk_epoch_keepers.proofs.Deeds.{ToldAndTook, deed_has, deed_tells, does_told, event_tells, sent_within}
+use Rattle.desk_epoch_keepers.specs.Group.{TellsLog, TellsLogs}
+use Rattle.desk_epoch_keepers.proofs.Deeds.{TookWhere, deed_has, deed_takes, does_took, event_tells, sent_within}
 use Rattle.desk_epoch_keepers.proofs.Deeds.{tells_log}
 use Rattle.desk_epoch_keepers.proofs.Moves.{HasLogs, Moved, Stands, moved_none, moved_then, moved_as, moved_one}
 
@@ -82,11 +84,6 @@ abbrev pub Took : Bool → Option (List Entry) → Type 0
 Took may None = Unit {0}
 Took may (Some log) = may ≡ true
 
--- What stores that may be found so hold of epochs before this one are these logs.
-abbrev pub FindsPast : {T : Type 0} → (T → ℕ → SavedValue → Type 0) → ℕ → T → List (List Entry) → Type 0
-FindsPast may_hold most stores logs = (epoch : ℕ) (s : SavedValue) → epoch < length logs → may_hold stores epoch s →
-    (slice_get logs epoch ≡ Some (saved_cut most s)) × (s.commit ≡ length s.log → saved_cut most s ≡ s.log)
-
 pub step_logs : (logs : List (List Entry)) (made : EpochStep) →
     logs_after logs made ≡ logs_with logs (reported_log made)
 step_logs logs steps.Nothing = refl
@@ -100,17 +97,17 @@ step_logs logs (steps.Tell to epoch base) = refl
 step_logs logs (steps.Began log packets) = refl
 step_logs logs steps.Replaced = refl
 
-step_took : (k : ℕ) (may : Bool) (made : EpochStep) → ToldAndTook k may made → Took may (reported_log made)
-step_took k may steps.Nothing h = tt
-step_took k may (steps.Own made) h = tt
-step_took k may (steps.Known client number place) h = tt
-step_took k may (steps.Refused client number refusal) h = tt
-step_took k may (steps.Deferred entry) h = tt
-step_took k may (steps.Ask to packet) h = tt
-step_took k may (steps.AskAll packets) h = tt
-step_took k may (steps.Tell to epoch base) h = tt
-step_took k may (steps.Began log packets) h = h
-step_took k may steps.Replaced h = tt
+step_took : (may : Bool) (made : EpochStep) → TookWhere may made → Took may (reported_log made)
+step_took may steps.Nothing h = tt
+step_took may (steps.Own made) h = tt
+step_took may (steps.Known client number place) h = tt
+step_took may (steps.Refused client number refusal) h = tt
+step_took may (steps.Deferred entry) h = tt
+step_took may (steps.Ask to packet) h = tt
+step_took may (steps.AskAll packets) h = tt
+step_took may (steps.Tell to epoch base) h = tt
+step_took may (steps.Began log packets) h = h
+step_took may steps.Replaced h = tt
 
 -- An item asks nothing of the node, or what its event asks.
 dropped_or : (drop : Bool) (asked : Deed) →
@@ -182,18 +179,16 @@ record Done {T S : Type 0} (Came : Entry → Type 0) (n most i : ℕ) (g : Epoch
   has : HasLogs most i met.node (logs_after logs made)
   moved :
       Moved Came n most i g mid.member.node (logs_after logs made) (epoch_packets_of old.member.node logs made)
-  told : ToldAndTook old.member.node.epoch may made
+  took : TookWhere may made
   reported : mid.reported ≡ reported_after old.reported (reported_log made)
   unsaved : mid.unsaved ≡ unsaved_after old.unsaved (reported_log made)
-  stores_are : mid.stores ≡ old.stores
 
 dropped : {T S : Type 0} (Came : Entry → Type 0) (n most i : ℕ) (g : EpochNodes) (old mid : ReplicaValue T S)
     (step : ReplicaStep) (logs : List (List Entry)) (may : Bool) (made : EpochStep) (met : MemberValue) →
     Stands n most i g old.member.node logs → step ≡ step_to_send met made → mid.member.node ≡ met.node →
     made ≡ steps.Nothing → met.node ≡ old.member.node → mid.reported ≡ reported_after old.reported (reported_log made) →
-    mid.unsaved ≡ unsaved_after old.unsaved (reported_log made) → mid.stores ≡ old.stores →
-    Done Came n most i g old mid step logs may
-dropped Came n most i g old mid step logs may made met stands step_is mid_is none still reported unsaved stores =
+    mid.unsaved ≡ unsaved_after old.unsaved (reported_log made) → Done Came n most i g old mid step logs may
+dropped Came n most i g old mid step logs may made met stands step_is mid_is none still reported unsaved =
     record {
       made = steps.Nothing;
       met = met;
@@ -202,10 +197,9 @@ dropped Came n most i g old mid step logs may made met stands step_is mid_is non
       has = subst (λ (v : EpochValue). HasLogs most i v logs) (sym still) stands.has;
       moved = moved_none Came n most i g mid.member.node logs (stands.value_is ∙ sym (mid_is ∙ still)) stands.logs_are
           (subst (λ (v : EpochValue). HasLogs most i v logs) (sym (mid_is ∙ still)) stands.has);
-      told = tt;
+      took = tt;
       reported = reported ∙ ap (λ (x : EpochStep). reported_after old.reported (reported_log x)) none;
       unsaved = unsaved ∙ ap (λ (x : EpochStep). unsaved_after old.unsaved (reported_log x)) none;
-      stores_are = stores;
     }
 
 met_it : {T S : Type 0} (Came : Entry → Type 0) (n most i : ℕ) (g : EpochNodes) (old mid : ReplicaValue T S)
@@ -215,18 +209,18 @@ met_it : {T S : Type 0} (Came : Entry → Type 0) (n most i : ℕ) (g : EpochNod
     mid.member.node ≡ met.node → DoesDeed (joined_logs logs)
     (deed (joined_logs logs) old.member.node (item_event old.member item)) old.member.node met.node made →
     mid.reported ≡ reported_after old.reported (reported_log made) →
-    mid.unsaved ≡ unsaved_after old.unsaved (reported_log made) → mid.stores ≡ old.stores →
+    mid.unsaved ≡ unsaved_after old.unsaved (reported_log made) →
     Done Came n most i g old mid step logs (item_tells item)
 unfolding met_event
-met_it Came n most i g old mid step logs item made met stands sent came step_is mid_is does reported unsaved stores =
+met_it Came n most i g old mid step logs item made met stands sent came step_is mid_is does reported unsaved =
     let e : EpochValue = old.member.node in
     let event : EpochEvent = item_event old.member item in
     let past : List Entry = joined_logs logs in
     let asked : Deed = deed past e event in
     let has : HasLogs most i met.node (logs_after logs made) = deed_has most i logs asked made e met.node stands.has
     does in
-    let told : ToldAndTook e.epoch (event_tells event) made =
-    does_told e.epoch (event_tells event) past asked made e met.node (deed_tells (standing_of e) past e event) does in
+    let took : TookWhere (event_tells event) made =
+    does_took (event_tells event) past asked made e met.node (deed_takes (standing_of e) past e event) does in
     record {
       made = made;
       met = met;
@@ -253,10 +247,9 @@ met_it Came n most i g old mid step logs item made met stands sent came step_is 
           (subst (λ (v : EpochValue). HasLogs most i v (logs_after logs made)) (sym mid_is) has)
           (λ j e same. event_came Came old.member item e came
           (ap (λ (act : EpochAct). met_event event act) same));
-      told = subst (λ (b : Bool). ToldAndTook e.epoch b made) (event_tells_item old.member item) told;
+      took = subst (λ (b : Bool). TookWhere b made) (event_tells_item old.member item) took;
       reported = reported;
       unsaved = unsaved;
-      stores_are = stores;
     }
 
 -- A replica did an item.
@@ -281,76 +274,107 @@ done {T} {S} Came n most i g old mid step logs item stands sent came does =
         (λ ignored.
         let d = subst (λ (x : Deed). DoesDeed past x old.member.node met.node made) ignored meets.does in
         dropped Came n most i g old mid step logs (item_tells item) made met stands step_is mid_is d.0 d.1
-        reported_is unsaved_is same.stores_are)
+        reported_is unsaved_is)
         (λ asked.
         let d = subst (λ (x : Deed). DoesDeed past x old.member.node met.node made) asked meets.does in
         met_it Came n most i g old mid step logs item made met stands sent came step_is mid_is d reported_is
-        unsaved_is same.stores_are)
+        unsaved_is)
         (item_asks past (takes_logs old) old.member item)
 
 -- what goes out for a step leaves the member as it is
-pub record SendsAs {T S : Type 0} (may_hold : T → ℕ → SavedValue → Type 0) (old new : ReplicaValue T S) : Type 0 where
+pub record SendsAs {T S : Type 0} (old new : ReplicaValue T S) : Type 0 where
   pub member_is : new.member ≡ old.member
   pub reported_is : new.reported ≡ old.reported
   pub unsaved_is : new.unsaved ≡ old.unsaved
-  pub stores : MayHoldNoMore may_hold old.stores new.stores
 
-still_sends : {T S : Type 0} (may_hold : T → ℕ → SavedValue → Type 0) (old new : ReplicaValue T S) → new ≡ old →
-    SendsAs may_hold old new
-still_sends {T} {S} may_hold old new is = record {
+still_sends : {T S : Type 0} (old new : ReplicaValue T S) → new ≡ old → SendsAs old new
+still_sends {T} {S} old new is = record {
   member_is = ap (λ (r : ReplicaValue T S). r.member) is;
   reported_is = ap (λ (r : ReplicaValue T S). r.reported) is;
   unsaved_is = ap (λ (r : ReplicaValue T S). r.unsaved) is;
-  stores = λ e s h. subst (λ t. may_hold t e s) (ap (λ (r : ReplicaValue T S). r.stores) is) h;
 }
 
 pub sends_as : {T S : Type 0} (may_hold : T → ℕ → SavedValue → Type 0) (old new : ReplicaValue T S) (step : ReplicaStep)
-    (packets : List (ℕ × EpochPacket)) → Sends may_hold old step packets new → SendsAs may_hold old new
+    (packets : List (ℕ × EpochPacket)) → Sends may_hold old step packets new → SendsAs old new
 sends_as {T} {S} may_hold old new (out.Tell to epoch base) packets (is, no_more, told) = record {
   member_is = ap (λ (r : ReplicaValue T S). r.member) is;
   reported_is = ap (λ (r : ReplicaValue T S). r.reported) is;
   unsaved_is = ap (λ (r : ReplicaValue T S). r.unsaved) is;
-  stores = no_more;
 }
-sends_as may_hold old new out.Nothing packets p = still_sends may_hold old new p.1
-sends_as may_hold old new out.Replaced packets p = still_sends may_hold old new p.1
-sends_as may_hold old new (out.Own epoch base step) packets p = still_sends may_hold old new p.1
-sends_as may_hold old new (out.Answer answer) packets p = still_sends may_hold old new p.1
-sends_as may_hold old new (out.Ask epoch to packet) packets p = still_sends may_hold old new p.1
-sends_as may_hold old new (out.AskAll epoch sent) packets p = still_sends may_hold old new p.1
-sends_as may_hold old new (out.Began epoch sent) packets p = still_sends may_hold old new p.1
+sends_as may_hold old new out.Nothing packets p = still_sends old new p.1
+sends_as may_hold old new out.Replaced packets p = still_sends old new p.1
+sends_as may_hold old new (out.Own epoch base step) packets p = still_sends old new p.1
+sends_as may_hold old new (out.Answer answer) packets p = still_sends old new p.1
+sends_as may_hold old new (out.Ask epoch to packet) packets p = still_sends old new p.1
+sends_as may_hold old new (out.AskAll epoch sent) packets p = still_sends old new p.1
+sends_as may_hold old new (out.Began epoch sent) packets p = still_sends old new p.1
+
+-- What some of the packets tell are logs too.
+
+pub tells_first : (i : ℕ) (logs : List (List Entry)) (packets first last : List (ℕ × EpochPacket)) →
+    packets ≡ first ++ last → TellsLogs i logs packets → TellsLogs i logs first
+tells_first i logs packets first last are tells = λ to p c. tells to p
+    (subst (λ (ps : List (ℕ × EpochPacket)). Contains ps (to, p)) (sym are)
+    (Contains-append_left first last (to, p) c))
+
+pub tells_last : (i : ℕ) (logs : List (List Entry)) (packets first last : List (ℕ × EpochPacket)) →
+    packets ≡ first ++ last → TellsLogs i logs packets → TellsLogs i logs last
+tells_last i logs packets first last are tells = λ to p c. tells to p
+    (subst (λ (ps : List (ℕ × EpochPacket)). Contains ps (to, p)) (sym are)
+    (Contains-append_right first last (to, p) c))
+
+-- Two packets that tell logs after places are one packet only where the places are one.
+one_place : (i from base other : ℕ) (log found : Option (List Entry)) (p : Message) → past_packet i base log ≡ Some p →
+    past_packet from other found ≡ Some p → base ≡ other
+one_place i from base other None found p is also = let no : None ≡ Some p = is in cc
+one_place i from base other (Some log) None p is also = let no : None ≡ Some p = also in cc
+one_place i from base other (Some log) (Some found) p is also =
+    by_places (leb base (length log)) (leb other (length found)) is also
+  where
+    by_places : (fits fit : Bool) →
+        cond fits (Some (NewState i 0 base (length log) (drop base log))) None ≡ Some p →
+        cond fit (Some (NewState from 0 other (length found) (drop other found))) None ≡ Some p → base ≡ other
+    by_places false fit is also = let no : None ≡ Some p = is in cc
+    by_places true false is also = let no : None ≡ Some p = also in cc
+    by_places true true is also =
+        let one : Some (NewState i 0 base (length log) (drop base log)) ≡ Some p = is in
+        let two : Some (NewState from 0 other (length found) (drop other found)) ≡ Some p = also in cc
+
+-- a packet that tells a log of an epoch
+abbrev telling_packet : ℕ → Message → EpochPacket
+telling_packet epoch p = record { epoch = epoch; purpose = purposes.Tell; packet = p }
 
 -- a log that is told out of the store of a past epoch is that epoch's
-told_within : {T : Type 0} (may_hold : T → ℕ → SavedValue → Type 0) (most : ℕ) (stores : T) (e : EpochValue)
-    (logs : List (List Entry)) (to epoch base : ℕ) (packets : List (ℕ × EpochPacket)) →
-    epoch < length logs → FindsPast may_hold most stores logs →
-    TellsPast (may_hold stores epoch) e to epoch base packets → (x : ℕ × EpochPacket) → Contains packets x →
-    Contains (telling_packets to epoch (past_packet e.node.id base (slice_get logs epoch))) x
-told_within {T} may_hold most stores e logs to epoch base packets before finds (packet, held, are) x c =
-    by_packet packet held (subst (λ (ps : List (ℕ × EpochPacket)). Contains ps x) are c)
+told_within : (may_hold : SavedValue → Type 0) (i : ℕ) (e : EpochValue) (logs : List (List Entry))
+    (to epoch base : ℕ) (packets : List (ℕ × EpochPacket)) → TellsLogs i logs packets →
+    TellsPast may_hold e to epoch base packets → (x : ℕ × EpochPacket) → Contains packets x →
+    Contains (telling_packets to epoch (past_packet i base (slice_get logs epoch))) x
+told_within may_hold i e logs to epoch base packets tells (packet, held, are) x c =
+    by_packet packet held are (subst (λ (ps : List (ℕ × EpochPacket)). Contains ps x) are c)
   where
-    by_packet : (packet : Option Message) → MatchOption packet (Unit {0}) (IsPastPacket (may_hold stores epoch) e base)
-        →
+    by_packet : (packet : Option Message) → MatchOption packet (Unit {0}) (IsPastPacket may_hold e base) →
+        packets ≡ packets_under epoch purposes.Tell (map (λ message. (to, message)) (option_to_list packet)) →
         Contains (packets_under epoch purposes.Tell (map (λ message. (to, message)) (option_to_list packet))) x →
-        Contains (telling_packets to epoch (past_packet e.node.id base (slice_get logs epoch))) x
-    by_packet None held c = absurd (Contains-none x c)
-    by_packet (Some p) held c =
-        let found = finds epoch held.0 before held.1 in
-        let log : slice_get logs epoch ≡ Some held.0.log =
-        found.0 ∙ ap (λ (es : List Entry). Some es) (found.1 held.2) in
-        let is : past_packet e.node.id base (slice_get logs epoch) ≡ Some p =
-        ap (λ (o : Option (List Entry)). past_packet e.node.id base o) log ∙ held.3 in
+        Contains (telling_packets to epoch (past_packet i base (slice_get logs epoch))) x
+    by_packet None held are c = absurd (Contains-none x c)
+    by_packet (Some p) held are c =
+        let t : TellsLog i logs (telling_packet epoch p) =
+        tells to (telling_packet epoch p)
+        (subst (λ (ps : List (ℕ × EpochPacket)). Contains ps (to, telling_packet epoch p)) (sym are)
+        (Contains-here (to, telling_packet epoch p) [])) refl in
+        let is : past_packet i base (slice_get logs epoch) ≡ Some p =
+        ap (λ k. past_packet i k (slice_get logs epoch))
+        (one_place e.node.id i base t.0 (Some held.0.log) (slice_get logs epoch) p held.3 t.1)
+        ∙ t.1 in
         subst (λ (o : Option Message). Contains (telling_packets to epoch o) x) (sym is) c
 
 -- What goes out for a step was sent by it.
 sends_within : {T S : Type 0} (may_hold : T → ℕ → SavedValue → Type 0) (most i : ℕ) (e : EpochValue) (m : MemberValue)
-    (old new : ReplicaValue T S) (logs : List (List Entry)) (made : EpochStep) (packets : List (ℕ × EpochPacket))
-    (may : Bool) → HasLogs most i e logs → HasLogs most i m.node (logs_after logs made) → old.member.node ≡ m.node →
-    ToldAndTook e.epoch may made → FindsPast may_hold most old.stores logs →
+    (old new : ReplicaValue T S) (logs : List (List Entry)) (made : EpochStep) (packets : List (ℕ × EpochPacket)) →
+    HasLogs most i e logs → HasLogs most i m.node (logs_after logs made) → TellsLogs i logs packets →
     Sends may_hold old (step_to_send m made) packets new → (x : ℕ × EpochPacket) → Contains packets x →
     Contains (epoch_packets_of e logs made) x
-sends_within {T} {S} may_hold most i e m old new logs made packets may has now own told finds sends x c =
-    by_made made now told sends
+sends_within {T} {S} may_hold most i e m old new logs made packets has now tells sends x c = by_made made now sends
   where
     at_once : (made : EpochStep) → HasLogs most i m.node (logs_after logs made) →
         packets ≡ step_packets (step_to_send m made) → Contains (epoch_packets_of e logs made) x
@@ -363,39 +387,35 @@ sends_within {T} {S} may_hold most i e m old new logs made packets may has now o
     ask true epoch to packet s = s.0
     ask false epoch to packet s = s.0
 
-    by_made : (made : EpochStep) → HasLogs most i m.node (logs_after logs made) → ToldAndTook e.epoch may made →
+    by_made : (made : EpochStep) → HasLogs most i m.node (logs_after logs made) →
         Sends may_hold old (step_to_send m made) packets new → Contains (epoch_packets_of e logs made) x
-    by_made steps.Nothing now told s = at_once steps.Nothing now s.0
-    by_made (steps.Own step) now told s = at_once (steps.Own step) now s.0
-    by_made (steps.Known client number place) now told s = at_once (steps.Known client number place) now s.0
-    by_made (steps.Refused client number refusal) now told s = at_once (steps.Refused client number refusal) now s.0
-    by_made (steps.Deferred entry) now told s = at_once (steps.Deferred entry) now s.0
-    by_made (steps.Ask to packet) now told s =
+    by_made steps.Nothing now s = at_once steps.Nothing now s.0
+    by_made (steps.Own step) now s = at_once (steps.Own step) now s.0
+    by_made (steps.Known client number place) now s = at_once (steps.Known client number place) now s.0
+    by_made (steps.Refused client number refusal) now s = at_once (steps.Refused client number refusal) now s.0
+    by_made (steps.Deferred entry) now s = at_once (steps.Deferred entry) now s.0
+    by_made (steps.Ask to packet) now s =
         at_once (steps.Ask to packet) now (ask (may_ask m.ask_ticks) m.node.epoch to packet s)
-    by_made (steps.AskAll sent) now told s = at_once (steps.AskAll sent) now (by_may (may_ask m.ask_ticks) s)
+    by_made (steps.AskAll sent) now s = at_once (steps.AskAll sent) now (by_may (may_ask m.ask_ticks) s)
       where
         by_may : (b : Bool) → Sends may_hold old (cond b (out.AskAll m.node.epoch sent) out.Nothing) packets new →
             packets ≡ step_packets (cond b (out.AskAll m.node.epoch sent) out.Nothing)
         by_may true s = s.0
         by_may false s = s.0
-    by_made (steps.Tell to epoch base) now told s = by_may (may_tell m.tell_ticks to) s
+    by_made (steps.Tell to epoch base) now s = by_may (may_tell m.tell_ticks to) s
       where
         by_may : (b : Bool) → Sends may_hold old (cond b (out.Tell to epoch base) out.Nothing) packets new →
             Contains (epoch_packets_of e logs (steps.Tell to epoch base)) x
         by_may true s =
-            let same_id : old.member.node.node.id ≡ e.node.id =
-            ap (λ (v : EpochValue). v.node.id) own ∙ (now.id_is ∙ sym has.id_is) in
-            subst
-            (λ k. Contains (telling_packets to epoch (past_packet k base (slice_get logs epoch))) x) same_id
-            (told_within may_hold most old.stores old.member.node logs to epoch base packets
-            (subst (λ k. epoch < k) has.epoch_is told) finds s.2 x
-            c)
+            subst (λ k. Contains (telling_packets to epoch (past_packet k base (slice_get logs epoch))) x)
+            (sym has.id_is)
+            (told_within (may_hold old.stores epoch) i old.member.node logs to epoch base packets tells s.2 x c)
         by_may false s = absurd (Contains-none x (subst (λ (ps : List (ℕ × EpochPacket)). Contains ps x) s.0 c))
-    by_made (steps.Began log sent) now told s = at_once (steps.Began log sent) now s.0
-    by_made steps.Replaced now told s = at_once steps.Replaced now s.0
+    by_made (steps.Began log sent) now s = at_once (steps.Began log sent) now s.0
+    by_made steps.Replaced now s = at_once steps.Replaced now s.0
 
 -- What an item makes of a replica and what goes out for it, as acts of its node. A log that was reported is put last.
-pub record ItemMoved {T S : Type 0} (may_hold : T → ℕ → SavedValue → Type 0) (Came : Entry → Type 0) (n most i : ℕ)
+pub record ItemMoved {T S : Type 0} (Came : Entry → Type 0) (n most i : ℕ)
     (g : EpochNodes) (old new : ReplicaValue T S) (logs : List (List Entry)) (packets : List (ℕ × EpochPacket))
     (may : Bool) : Type 0 where
   pub log : Option (List Entry)
@@ -403,52 +423,39 @@ pub record ItemMoved {T S : Type 0} (may_hold : T → ℕ → SavedValue → Typ
   pub moved : Moved Came n most i g new.member.node (logs_with logs log) packets
   pub reported : new.reported ≡ reported_after old.reported log
   pub unsaved : new.unsaved ≡ unsaved_after old.unsaved log
-  pub stores : MayHoldNoMore may_hold old.stores new.stores
-
-pub finds_later : {T : Type 0} (may_hold : T → ℕ → SavedValue → Type 0) (most : ℕ) (old new : T)
-    (logs : List (List Entry)) → MayHoldNoMore may_hold old new → FindsPast may_hold most old logs →
-    FindsPast may_hold most new logs
-finds_later may_hold most old new logs no_more finds = λ e s before held. finds e s before (no_more e s held)
-
-no_more_as : {T : Type 0} (may_hold : T → ℕ → SavedValue → Type 0) (old new : T) → new ≡ old →
-    MayHoldNoMore may_hold old new
-no_more_as may_hold old new same = λ e s held. subst (λ t. may_hold t e s) same held
 
 -- A request or a packet, or a tick whose step is not the node's own.
 acted_moves : {T S : Type 0} (may_hold : T → ℕ → SavedValue → Type 0) (Came : Entry → Type 0) (n most i : ℕ)
     (g : EpochNodes) (old mid new : ReplicaValue T S) (logs : List (List Entry)) (item : EpochItem)
     (step : ReplicaStep) (packets : List (ℕ × EpochPacket)) → Stands n most i g old.member.node logs →
     WasSentItem g.sent i item →
-    CameItem Came item → FindsPast may_hold most old.stores logs → DoesReplicaItem old item step mid →
+    CameItem Came item → TellsLogs i logs packets → DoesReplicaItem old item step mid →
     Sends may_hold mid step packets new →
-    ItemMoved may_hold Came n most i g old new logs packets (item_tells item)
-acted_moves {T} {S} may_hold Came n most i g old mid new logs item step packets stands sent came finds does sends =
+    ItemMoved Came n most i g old new logs packets (item_tells item)
+acted_moves {T} {S} may_hold Came n most i g old mid new logs item step packets stands sent came tells does sends =
     let d = done Came n most i g old mid step logs item stands sent came does in
     let s = sends_as may_hold mid new step packets sends in
-    let same = no_more_as may_hold old.stores mid.stores d.stores_are in
     record {
       log = reported_log d.made;
-      took = step_took old.member.node.epoch (item_tells item) d.made d.told;
+      took = step_took (item_tells item) d.made d.took;
       moved = moved_as Came n most i g mid.member.node new.member.node (logs_after logs d.made)
           (logs_with logs (reported_log d.made)) (epoch_packets_of old.member.node logs d.made) packets
           (ap (λ (m : MemberValue). m.node) (sym s.member_is)) (step_logs logs d.made)
-          (λ x c. sends_within may_hold most i old.member.node d.met mid new logs d.made packets (item_tells item)
-          stands.has d.has d.met_is d.told (finds_later may_hold most old.stores mid.stores logs same finds)
+          (λ x c. sends_within may_hold most i old.member.node d.met mid new logs d.made packets stands.has d.has tells
           (subst (λ (x : ReplicaStep). Sends may_hold mid x packets new) d.step_is sends) x c)
           d.moved;
       reported = s.reported_is ∙ d.reported;
       unsaved = s.unsaved_is ∙ d.unsaved;
-      stores = λ e x h. same e x (s.stores e x h);
     }
 
 -- An item by which the node stays as it is.
-still_moves : {T S : Type 0} (may_hold : T → ℕ → SavedValue → Type 0) (Came : Entry → Type 0) (n most i : ℕ)
-    (g : EpochNodes) (old new : ReplicaValue T S) (logs : List (List Entry)) (packets : List (ℕ × EpochPacket))
+still_moves : {T S : Type 0} (Came : Entry → Type 0) (n most i : ℕ) (g : EpochNodes)
+    (old new : ReplicaValue T S) (logs : List (List Entry)) (packets : List (ℕ × EpochPacket))
     (may : Bool) → Stands n most i g old.member.node logs → new.member.node ≡ old.member.node →
     new.reported ≡ old.reported →
-    new.unsaved ≡ old.unsaved → new.stores ≡ old.stores → packets ≡ [] →
-    ItemMoved may_hold Came n most i g old new logs packets may
-still_moves may_hold Came n most i g old new logs packets may stands same reported unsaved stores none = record {
+    new.unsaved ≡ old.unsaved → packets ≡ [] →
+    ItemMoved Came n most i g old new logs packets may
+still_moves Came n most i g old new logs packets may stands same reported unsaved none = record {
   log = None;
   took = tt;
   moved = moved_as Came n most i g old.member.node new.member.node logs logs [] packets (sym same) refl
@@ -456,17 +463,15 @@ still_moves may_hold Came n most i g old new logs packets may stands same report
       (moved_none Came n most i g old.member.node logs stands.value_is stands.logs_are stands.has);
   reported = reported;
   unsaved = unsaved;
-  stores = no_more_as may_hold old.stores new.stores stores;
 }
 
-pub refused_moves : {T S : Type 0} (may_hold : T → ℕ → SavedValue → Type 0) (Came : Entry → Type 0) (n most i : ℕ)
-    (g : EpochNodes) (old new : ReplicaValue T S) (logs : List (List Entry)) (packets : List (ℕ × EpochPacket))
+pub refused_moves : {T S : Type 0} (Came : Entry → Type 0) (n most i : ℕ) (g : EpochNodes)
+    (old new : ReplicaValue T S) (logs : List (List Entry)) (packets : List (ℕ × EpochPacket))
     (may : Bool) → Stands n most i g old.member.node logs → ReplicaRefuses old new → packets ≡ [] →
-    ItemMoved may_hold Came n most i g old new logs packets may
-refused_moves may_hold Came n most i g old new logs packets may stands refused none =
-    still_moves may_hold Came n most i g old new logs packets may stands
-    (ap (λ (m : MemberValue). m.node) refused.member_is) refused.reported_is refused.unsaved_is
-    refused.stores.stores_are none
+    ItemMoved Came n most i g old new logs packets may
+refused_moves Came n most i g old new logs packets may stands refused none =
+    still_moves Came n most i g old new logs packets may stands
+    (ap (λ (m : MemberValue). m.node) refused.member_is) refused.reported_is refused.unsaved_is none
 
 -- the epoch of a step of the node's own
 own_epoch : ℕ → ReplicaStep → ℕ
@@ -534,13 +539,13 @@ own_within e m logs (steps.Began log packets) epoch same x c = absurd (Contains-
 own_within e m logs steps.Replaced epoch same x c = absurd (Contains-none x c)
 
 -- A request that was held is done again, and its packets go out under the epoch of the tick.
-again_moves : {T S : Type 0} (may_hold : T → ℕ → SavedValue → Type 0) (Came : Entry → Type 0) (n most i : ℕ)
-    (g : EpochNodes) (old new : ReplicaValue T S) (logs : List (List Entry)) (entry : Entry) (step : ReplicaStep)
+again_moves : {T S : Type 0} (Came : Entry → Type 0) (n most i : ℕ) (g : EpochNodes)
+    (old new : ReplicaValue T S) (logs : List (List Entry)) (entry : Entry) (step : ReplicaStep)
     (epoch : ℕ) (deferred held : List Entry) (more : List (ℕ × Message)) (outcomes : List Outcome)
     (own : Option Answer) → Stands n most i g old.member.node logs → Came entry → epoch ≡ old.member.node.epoch →
     DoesReplicaItem old (items.Request entry) step new → IsPut step deferred more outcomes own held →
-    ItemMoved may_hold Came n most i g old new logs (packets_under epoch purposes.Step more) false
-again_moves {T} {S} may_hold Came n most i g old new logs entry step epoch deferred held more outcomes own stands came
+    ItemMoved Came n most i g old new logs (packets_under epoch purposes.Step more) false
+again_moves {T} {S} Came n most i g old new logs entry step epoch deferred held more outcomes own stands came
     same does put =
     let d = done Came n most i g old new step logs (items.Request entry) stands tt came does in
     let sends : List (ℕ × Message) = own_packets (step_to_send d.met d.made) in
@@ -558,23 +563,22 @@ again_moves {T} {S} may_hold Came n most i g old new logs entry step epoch defer
     put in
     record {
       log = reported_log d.made;
-      took = step_took old.member.node.epoch false d.made d.told;
+      took = step_took false d.made d.took;
       moved = moved_as Came n most i g new.member.node new.member.node (logs_after logs d.made)
           (logs_with logs (reported_log d.made)) (epoch_packets_of old.member.node logs d.made)
           (packets_under epoch purposes.Step more) refl (step_logs logs d.made)
           (λ x c. own_within old.member.node d.met logs d.made epoch same x (all x c)) d.moved;
       reported = d.reported;
       unsaved = d.unsaved;
-      stores = no_more_as may_hold old.stores new.stores d.stores_are;
     }
 
 -- One item after another: of the first no log was reported.
-pub then_moves : {T S : Type 0} (may_hold : T → ℕ → SavedValue → Type 0) (Came : Entry → Type 0) (n most i : ℕ)
-    (g : EpochNodes) (old mid new : ReplicaValue T S) (logs : List (List Entry)) (first last : List (ℕ × EpochPacket))
-    (may : Bool) → (m : ItemMoved may_hold Came n most i g old mid logs first false) →
-    ItemMoved may_hold Came n most i m.moved.later mid new logs last may →
-    ItemMoved may_hold Came n most i g old new logs (first ++ last) may
-then_moves {T} {S} may_hold Came n most i g old mid new logs first last may m k =
+pub then_moves : {T S : Type 0} (Came : Entry → Type 0) (n most i : ℕ) (g : EpochNodes)
+    (old mid new : ReplicaValue T S) (logs : List (List Entry)) (first last : List (ℕ × EpochPacket))
+    (may : Bool) → (m : ItemMoved Came n most i g old mid logs first false) →
+    ItemMoved Came n most i m.moved.later mid new logs last may →
+    ItemMoved Came n most i g old new logs (first ++ last) may
+then_moves {T} {S} Came n most i g old mid new logs first last may m k =
     let none : m.log ≡ None = no_log m.log m.took in
     record {
       log = k.log;
@@ -585,7 +589,6 @@ then_moves {T} {S} may_hold Came n most i g old mid new logs first last may m k 
           (m.reported ∙ ap (λ (l : Option (List Entry)). reported_after old.reported l) none);
       unsaved = k.unsaved ∙ ap (λ (b : Bool). unsaved_after b k.log)
           (m.unsaved ∙ ap (λ (l : Option (List Entry)). unsaved_after old.unsaved l) none);
-      stores = λ e s h. m.stores e s (k.stores e s h);
     }
   where
     no_log : (o : Option (List Entry)) → Took false o → o ≡ None
@@ -593,11 +596,11 @@ then_moves {T} {S} may_hold Came n most i g old mid new logs first last may m k 
     no_log (Some log) t = let e : false ≡ true = t in cc
 
 -- where the node stands after an item of which no log was reported
-pub stands_then : {T S : Type 0} (may_hold : T → ℕ → SavedValue → Type 0) (Came : Entry → Type 0) (n most i : ℕ)
-    (g : EpochNodes) (old mid : ReplicaValue T S) (logs : List (List Entry)) (packets : List (ℕ × EpochPacket)) →
-    Stands n most i g old.member.node logs → (m : ItemMoved may_hold Came n most i g old mid logs packets false) →
+pub stands_then : {T S : Type 0} (Came : Entry → Type 0) (n most i : ℕ) (g : EpochNodes)
+    (old mid : ReplicaValue T S) (logs : List (List Entry)) (packets : List (ℕ × EpochPacket)) →
+    Stands n most i g old.member.node logs → (m : ItemMoved Came n most i g old mid logs packets false) →
     Stands n most i m.moved.later mid.member.node logs
-stands_then may_hold Came n most i g old mid logs packets stands m =
+stands_then Came n most i g old mid logs packets stands m =
     let same : logs_with logs m.log ≡ logs = no_log m.log m.took in
     record {
       small = stands.small;
@@ -611,75 +614,79 @@ stands_then may_hold Came n most i g old mid logs packets stands m =
     no_log (Some log) t = let e : false ≡ true = t in cc
 
 -- What was done of a request that is held, after a tick.
-retries_moves : {T S : Type 0} (may_hold : T → ℕ → SavedValue → Type 0) (Came : Entry → Type 0) (n most i : ℕ)
-    (g : EpochNodes) (old new : ReplicaValue T S) (logs : List (List Entry)) (epoch : ℕ) (deferred held : List Entry)
+retries_moves : {T S : Type 0} (Came : Entry → Type 0) (n most i : ℕ) (g : EpochNodes)
+    (old new : ReplicaValue T S) (logs : List (List Entry)) (epoch : ℕ) (deferred held : List Entry)
     (more : List (ℕ × Message)) (outcomes : List Outcome) (own : Option Answer) →
     Stands n most i g old.member.node logs →
     AllByRecursion Came deferred → epoch ≡ old.member.node.epoch → Retries old deferred more outcomes own new held →
-    ItemMoved may_hold Came n most i g old new logs (packets_under epoch purposes.Step more) false
-retries_moves {T} {S} may_hold Came n most i g old new logs epoch [] held more outcomes own stands came same
+    ItemMoved Came n most i g old new logs (packets_under epoch purposes.Step more) false
+retries_moves {T} {S} Came n most i g old new logs epoch [] held more outcomes own stands came same
     (still, nothing) =
-    still_moves may_hold Came n most i g old new logs _ false stands
+    still_moves Came n most i g old new logs _ false stands
     (ap (λ (r : ReplicaValue T S). r.member.node) still) (ap (λ (r : ReplicaValue T S). r.reported) still)
-    (ap (λ (r : ReplicaValue T S). r.unsaved) still) (ap (λ (r : ReplicaValue T S). r.stores) still)
+    (ap (λ (r : ReplicaValue T S). r.unsaved) still)
     (ap (λ (ms : List (ℕ × Message)). packets_under epoch purposes.Step ms) nothing.1)
-retries_moves may_hold Came n most i g old new logs epoch (entry ∷ rest) held more outcomes own stands came same
+retries_moves Came n most i g old new logs epoch (entry ∷ rest) held more outcomes own stands came same
     (inl (step, does, put)) =
-    again_moves may_hold Came n most i g old new logs entry step epoch (entry ∷ rest) held more outcomes own stands
+    again_moves Came n most i g old new logs entry step epoch (entry ∷ rest) held more outcomes own stands
     came.0 same does put
-retries_moves may_hold Came n most i g old new logs epoch (entry ∷ rest) held more outcomes own stands came same
+retries_moves Came n most i g old new logs epoch (entry ∷ rest) held more outcomes own stands came same
     (inr (refused, nothing)) =
-    refused_moves may_hold Came n most i g old new logs _ false stands refused
+    refused_moves Came n most i g old new logs _ false stands refused
     (ap (λ (ms : List (ℕ × Message)). packets_under epoch purposes.Step ms) nothing.1)
 
 -- What goes out after the step of a tick.
 tick_moves : {T S : Type 0} (may_hold : T → ℕ → SavedValue → Type 0) (Came : Entry → Type 0) (n most i : ℕ)
     (g : EpochNodes) (old mid new : ReplicaValue T S) (logs : List (List Entry)) (step : ReplicaStep)
     (packets : List (ℕ × EpochPacket)) (given : List Answer) (deferred held : List Entry) →
-    Stands n most i g old.member.node logs → AllByRecursion Came deferred → FindsPast may_hold most old.stores logs →
+    Stands n most i g old.member.node logs → AllByRecursion Came deferred → TellsLogs i logs packets →
     DoesReplicaItem old items.Tick step mid → AfterTick may_hold mid deferred step packets given new held →
-    ItemMoved may_hold Came n most i g old new logs packets false
+    ItemMoved Came n most i g old new logs packets false
 unfolding own_epoch
 tick_moves {T} {S} may_hold Came n most i g old mid new logs (out.Own epoch base step) packets given deferred held
-    stands came finds does (more, outcomes, own, again, packets_are, given_is) =
+    stands came tells does (more, outcomes, own, again, packets_are, given_is) =
     let first : List (ℕ × EpochPacket) = packets_under epoch purposes.Step step.packets.items in
+    let are : packets ≡ first ++ packets_under epoch purposes.Step more =
+    packets_are ∙ map-append _ step.packets.items more in
+    let early : TellsLogs i logs first =
+    tells_first i logs packets first (packets_under epoch purposes.Step more) are tells in
     let d = done Came n most i g old mid (out.Own epoch base step) logs items.Tick stands tt tt does in
-    let one : ItemMoved may_hold Came n most i g old mid logs first false =
-    acted_moves may_hold Came n most i g old mid mid logs items.Tick (out.Own epoch base step) first stands tt tt finds
+    let one : ItemMoved Came n most i g old mid logs first false =
+    acted_moves may_hold Came n most i g old mid mid logs items.Tick (out.Own epoch base step) first stands tt tt early
     does (refl, refl) in
     let at : epoch ≡ mid.member.node.epoch =
     ap (own_epoch d.met.node.epoch) d.step_is
     ∙ (sent_epoch d.met d.made ∙ ap (λ (v : EpochValue). v.epoch) (sym d.met_is)) in
     let two =
-    retries_moves may_hold Came n most i one.moved.later mid new logs epoch deferred held more outcomes own
-    (stands_then may_hold Came n most i g old mid logs first stands one) came at again in
-    let all : ItemMoved may_hold Came n most i g old new logs
+    retries_moves Came n most i one.moved.later mid new logs epoch deferred held more outcomes own
+    (stands_then Came n most i g old mid logs first stands one) came at again in
+    let all : ItemMoved Came n most i g old new logs
     (first ++ packets_under epoch purposes.Step more) false =
-    then_moves may_hold Came n most i g old mid new logs first (packets_under epoch purposes.Step more) false one
+    then_moves Came n most i g old mid new logs first (packets_under epoch purposes.Step more) false one
     two in
-    subst (λ (ps : List (ℕ × EpochPacket)). ItemMoved may_hold Came n most i g old new logs ps false)
-    (sym (packets_are ∙ map-append _ step.packets.items more)) all
-tick_moves may_hold Came n most i g old mid new logs out.Nothing packets given deferred held stands came finds does
+    subst (λ (ps : List (ℕ × EpochPacket)). ItemMoved Came n most i g old new logs ps false)
+    (sym are) all
+tick_moves may_hold Came n most i g old mid new logs out.Nothing packets given deferred held stands came tells does
     (sends, given_is, held_is) =
-    acted_moves may_hold Came n most i g old mid new logs items.Tick _ packets stands tt tt finds does sends
-tick_moves may_hold Came n most i g old mid new logs out.Replaced packets given deferred held stands came finds does
+    acted_moves may_hold Came n most i g old mid new logs items.Tick _ packets stands tt tt tells does sends
+tick_moves may_hold Came n most i g old mid new logs out.Replaced packets given deferred held stands came tells does
     (sends, given_is, held_is) =
-    acted_moves may_hold Came n most i g old mid new logs items.Tick _ packets stands tt tt finds does sends
-tick_moves may_hold Came n most i g old mid new logs (out.Answer answer) packets given deferred held stands came finds
+    acted_moves may_hold Came n most i g old mid new logs items.Tick _ packets stands tt tt tells does sends
+tick_moves may_hold Came n most i g old mid new logs (out.Answer answer) packets given deferred held stands came tells
     does (sends, given_is, held_is) =
-    acted_moves may_hold Came n most i g old mid new logs items.Tick _ packets stands tt tt finds does sends
+    acted_moves may_hold Came n most i g old mid new logs items.Tick _ packets stands tt tt tells does sends
 tick_moves may_hold Came n most i g old mid new logs (out.Ask epoch to packet) packets given deferred held stands came
-    finds does (sends, given_is, held_is) =
-    acted_moves may_hold Came n most i g old mid new logs items.Tick _ packets stands tt tt finds does sends
+    tells does (sends, given_is, held_is) =
+    acted_moves may_hold Came n most i g old mid new logs items.Tick _ packets stands tt tt tells does sends
 tick_moves may_hold Came n most i g old mid new logs (out.AskAll epoch sent) packets given deferred held stands came
-    finds does (sends, given_is, held_is) =
-    acted_moves may_hold Came n most i g old mid new logs items.Tick _ packets stands tt tt finds does sends
+    tells does (sends, given_is, held_is) =
+    acted_moves may_hold Came n most i g old mid new logs items.Tick _ packets stands tt tt tells does sends
 tick_moves may_hold Came n most i g old mid new logs (out.Tell to epoch base) packets given deferred held stands came
-    finds does (sends, given_is, held_is) =
-    acted_moves may_hold Came n most i g old mid new logs items.Tick _ packets stands tt tt finds does sends
+    tells does (sends, given_is, held_is) =
+    acted_moves may_hold Came n most i g old mid new logs items.Tick _ packets stands tt tt tells does sends
 tick_moves may_hold Came n most i g old mid new logs (out.Began epoch sent) packets given deferred held stands came
-    finds does (sends, given_is, held_is) =
-    acted_moves may_hold Came n most i g old mid new logs items.Tick _ packets stands tt tt finds does sends
+    tells does (sends, given_is, held_is) =
+    acted_moves may_hold Came n most i g old mid new logs items.Tick _ packets stands tt tt tells does sends
 
 -- An item of the mailbox that is a packet was sent to node i; one that is a request is such a one.
 abbrev pub WasSentMail : List (ℕ × EpochPacket) → ℕ → Item → Type 0
@@ -706,22 +713,22 @@ pub does_moves : {T S : Type 0} (may_hold : T → ℕ → SavedValue → Type 0)
     (g : EpochNodes) (old new : DeferringReplica T S) (logs : List (List Entry)) (item : Item)
     (packets : List (ℕ × EpochPacket)) (given : List Answer) → Stands n most i g old.replica.member.node logs →
     WasSentMail g.sent i item → CameMail Came item → AllByRecursion Came old.deferred.items →
-    FindsPast may_hold most old.replica.stores logs → DeferringDoes may_hold old item packets given new →
-    ItemMoved may_hold Came n most i g old.replica new.replica logs packets (mail_tells item)
-does_moves may_hold Came n most i g old new logs (mail.Request session entry) packets given stands sent came held finds
+    TellsLogs i logs packets → DeferringDoes may_hold old item packets given new →
+    ItemMoved Came n most i g old.replica new.replica logs packets (mail_tells item)
+does_moves may_hold Came n most i g old new logs (mail.Request session entry) packets given stands sent came held tells
     (step, mid, does, sends, given_is, deferred_is) =
     acted_moves may_hold Came n most i g old.replica mid new.replica logs (items.Request entry) step packets stands tt
-    came finds does sends
-does_moves may_hold Came n most i g old new logs (mail.Packet p) packets given stands sent came held finds
+    came tells does sends
+does_moves may_hold Came n most i g old new logs (mail.Packet p) packets given stands sent came held tells
     (step, mid, does, sends, given_is, deferred_is) =
     acted_moves may_hold Came n most i g old.replica mid new.replica logs (items.Packet p) step packets stands sent
-    tt finds does sends
-does_moves may_hold Came n most i g old new logs mail.Tick packets given stands sent came held finds
+    tt tells does sends
+does_moves may_hold Came n most i g old new logs mail.Tick packets given stands sent came held tells
     (step, mid, does, after) =
     tick_moves may_hold Came n most i g old.replica mid new.replica logs step packets given old.deferred.items
-    new.deferred.items stands held finds does after
-does_moves {T} {S} may_hold Came n most i g old new logs mail.Stop packets given stands sent came held finds
+    new.deferred.items stands held tells does after
+does_moves {T} {S} may_hold Came n most i g old new logs mail.Stop packets given stands sent came held tells
     (none, no_answers, same, deferred_is) =
-    still_moves may_hold Came n most i g old.replica new.replica logs packets false stands
+    still_moves Came n most i g old.replica new.replica logs packets false stands
     (ap (λ (r : ReplicaValue T S). r.member.node) same) (ap (λ (r : ReplicaValue T S). r.reported) same)
-    (ap (λ (r : ReplicaValue T S). r.unsaved) same) (ap (λ (r : ReplicaValue T S). r.stores) same) none
+    (ap (λ (r : ReplicaValue T S). r.unsaved) same) none

@@ -23,11 +23,11 @@ use Rattle.desk_epoch_group.specs.Group.{EpochNodes, started_again}
 use Rattle.desk_world.proofs.Packets.{Contains-none}
 use Rattle.desk_threads.specs.EndingItems.{NoneEnds, ends_turn, may_carry_log}
 use Rattle.desk_threads.specs.Replicas.{MeetsItem, MeetsItems}
-use Rattle.desk_epoch_keepers.specs.Group.{logs_after_turn, replica_node, replica_ghosts}
+use Rattle.desk_epoch_keepers.specs.Group.{TellsLogs, logs_after_turn, replica_node, replica_ghosts}
 use Rattle.desk_epoch_keepers.proofs.Deeds.{tells_log}
 use Rattle.desk_epoch_keepers.proofs.Moves.{Moved, Stands, moved_as, moved_then}
-use Rattle.desk_epoch_keepers.proofs.ReplicaMoves.{CameMail, FindsPast, ItemMoved, Took, WasSentMail, does_moves}
-use Rattle.desk_epoch_keepers.proofs.ReplicaMoves.{finds_later, logs_with, mail_tells, refused_moves, stands_then}
+use Rattle.desk_epoch_keepers.proofs.ReplicaMoves.{CameMail, ItemMoved, Took, WasSentMail, does_moves, logs_with}
+use Rattle.desk_epoch_keepers.proofs.ReplicaMoves.{mail_tells, refused_moves, stands_then, tells_first, tells_last}
 use Rattle.desk_epoch_keepers.proofs.ReplicaMoves.{sends_as, then_moves}
 use Rattle.desk_epoch_keepers.proofs.Reported.{end_moves}
 
@@ -68,13 +68,13 @@ meets_moves : {T S : Type 0} (may_hold : T → ℕ → SavedValue → Type 0) (C
     (g : EpochNodes) (old new : DeferringReplica T S) (logs : List (List Entry)) (item : Item)
     (packets : List (ℕ × EpochPacket)) (given : List Answer) → Stands n most i g (replica_node old) logs →
     WasSentMail g.sent i item → CameMail Came item → AllByRecursion Came old.deferred.items →
-    FindsPast may_hold most old.replica.stores logs → MeetsItem (replica_ghosts may_hold) old item packets given new →
-    ItemMoved may_hold Came n most i g old.replica new.replica logs packets (mail_tells item)
-meets_moves may_hold Came n most i g old new logs item packets given stands sent came held finds (inl does) =
-    does_moves may_hold Came n most i g old new logs item packets given stands sent came held finds does
-meets_moves may_hold Came n most i g old new logs item packets given stands sent came held finds
+    TellsLogs i logs packets → MeetsItem (replica_ghosts may_hold) old item packets given new →
+    ItemMoved Came n most i g old.replica new.replica logs packets (mail_tells item)
+meets_moves may_hold Came n most i g old new logs item packets given stands sent came held tells (inl does) =
+    does_moves may_hold Came n most i g old new logs item packets given stands sent came held tells does
+meets_moves may_hold Came n most i g old new logs item packets given stands sent came held tells
     (inr (none, no_answers, refused)) =
-    refused_moves may_hold Came n most i g old.replica new.replica logs packets (mail_tells item) stands refused.0 none
+    refused_moves Came n most i g old.replica new.replica logs packets (mail_tells item) stands refused.0 none
 
 -- What comes by a turn, and what is held, is of such requests, after each of its items.
 abbrev pub HeldCome : (T S : Type 0) → (T → ℕ → SavedValue → Type 0) → (Entry → Type 0) → Type 0
@@ -88,32 +88,35 @@ pub turn_moves : {T S : Type 0} (may_hold : T → ℕ → SavedValue → Type 0)
     (packets : List (ℕ × EpochPacket)) (given : List Answer) → HeldCome T S may_hold Came →
     Stands n most i g (replica_node old) logs → AllByRecursion (WasSentMail g.sent i) (before ++ last ∷ []) →
     AllByRecursion (CameMail Came) (before ++ last ∷ []) → AllByRecursion Came old.deferred.items →
-    FindsPast may_hold most old.replica.stores logs → NoneEnds before →
+    TellsLogs i logs packets → NoneEnds before →
     MeetsItems (replica_ghosts may_hold) old (before ++ last ∷ []) packets given new →
-    ItemMoved may_hold Came n most i g old.replica new.replica logs packets (mail_tells last)
-turn_moves {T} {S} may_hold Came n most i g old new logs [] last packets given comes stands sent came held finds none
+    ItemMoved Came n most i g old.replica new.replica logs packets (mail_tells last)
+turn_moves {T} {S} may_hold Came n most i g old new logs [] last packets given comes stands sent came held tells none
     (mid, first, rest, early, late, packets_are, given_are, one, (rest_none, late_none, same)) =
-    let m = meets_moves may_hold Came n most i g old mid logs last first early stands sent.0 came.0 held finds one in
-    subst (λ (ps : List (ℕ × EpochPacket)). ItemMoved may_hold Came n most i g old.replica new.replica logs ps
+    let m =
+    meets_moves may_hold Came n most i g old mid logs last first early stands sent.0 came.0 held
+    (tells_first i logs packets first rest packets_are tells) one in
+    subst (λ (ps : List (ℕ × EpochPacket)). ItemMoved Came n most i g old.replica new.replica logs ps
     (mail_tells last))
     (sym (packets_are ∙ (ap (λ (ps : List (ℕ × EpochPacket)). first ++ ps) rest_none ∙ append-nil first)))
-    (subst (λ (r : DeferringReplica T S). ItemMoved may_hold Came n most i g old.replica r.replica logs first
+    (subst (λ (r : DeferringReplica T S). ItemMoved Came n most i g old.replica r.replica logs first
     (mail_tells last)) (sym same) m)
 turn_moves {T} {S} may_hold Came n most i g old new logs (item ∷ more) last packets given comes stands sent came held
-    finds none (mid, first, rest, early, late, packets_are, given_are, one, others) =
-    let m : ItemMoved may_hold Came n most i g old.replica mid.replica logs first false =
-    subst (λ (b : Bool). ItemMoved may_hold Came n most i g old.replica mid.replica logs first b)
+    tells none (mid, first, rest, early, late, packets_are, given_are, one, others) =
+    let m : ItemMoved Came n most i g old.replica mid.replica logs first false =
+    subst (λ (b : Bool). ItemMoved Came n most i g old.replica mid.replica logs first b)
     (ends_none item none.0)
-    (meets_moves may_hold Came n most i g old mid logs item first early stands sent.0 came.0 held finds one) in
+    (meets_moves may_hold Came n most i g old mid logs item first early stands sent.0 came.0 held
+    (tells_first i logs packets first rest packets_are tells) one) in
     let all =
     turn_moves may_hold Came n most i m.moved.later mid new logs more last rest late comes
-    (stands_then may_hold Came n most i g old.replica mid.replica logs first stands m)
+    (stands_then Came n most i g old.replica mid.replica logs first stands m)
     (all_later g.sent m.moved.later.sent i (more ++ last ∷ []) (λ x c. m.moved.sent x (inl c)) sent.1) came.1
     (comes old mid item first early one came.0 held)
-    (finds_later may_hold most old.replica.stores mid.replica.stores logs m.stores finds) none.1 others in
-    subst (λ (ps : List (ℕ × EpochPacket)). ItemMoved may_hold Came n most i g old.replica new.replica logs ps
+    (tells_last i logs packets first rest packets_are tells) none.1 others in
+    subst (λ (ps : List (ℕ × EpochPacket)). ItemMoved Came n most i g old.replica new.replica logs ps
     (mail_tells last)) (sym packets_are)
-    (then_moves may_hold Came n most i g old.replica mid.replica new.replica logs first rest (mail_tells last) m all)
+    (then_moves Came n most i g old.replica mid.replica new.replica logs first rest (mail_tells last) m all)
 
 -- The logs behind a replica after a turn are those that its past is of.
 pub logs_of_turn : {T S : Type 0} (logs : List (List Entry)) (log : Option (List Entry)) (old : ReplicaValue T S)
@@ -127,11 +130,11 @@ logs_of_turn logs (Some log) old made saved reported unsaved =
     ∙ ap (λ (es : List Entry). logs ++ es ∷ []) is)
 
 -- no log was reported, so none is yet to be saved
-still_saved : {T S : Type 0} (may_hold : T → ℕ → SavedValue → Type 0) (Came : Entry → Type 0) (n most i : ℕ)
-    (g : EpochNodes) (old new : DeferringReplica T S) (logs : List (List Entry)) (packets : List (ℕ × EpochPacket)) →
-    old.replica.unsaved ≡ false → ItemMoved may_hold Came n most i g old.replica new.replica logs packets false →
+still_saved : {T S : Type 0} (Came : Entry → Type 0) (n most i : ℕ) (g : EpochNodes)
+    (old new : DeferringReplica T S) (logs : List (List Entry)) (packets : List (ℕ × EpochPacket)) →
+    old.replica.unsaved ≡ false → ItemMoved Came n most i g old.replica new.replica logs packets false →
     new.replica.unsaved ≡ false
-still_saved may_hold Came n most i g old new logs packets saved m = by_log m.log m.took m.unsaved
+still_saved Came n most i g old new logs packets saved m = by_log m.log m.took m.unsaved
   where
     by_log : (log : Option (List Entry)) → Took false log →
         new.replica.unsaved ≡ unsaved_after old.replica.unsaved log → new.replica.unsaved ≡ false
@@ -143,20 +146,20 @@ last_moves : {T S : Type 0} (may_hold : T → ℕ → SavedValue → Type 0) (Ca
     (g : EpochNodes) (old new : DeferringReplica T S) (logs : List (List Entry)) (item : Item)
     (packets : List (ℕ × EpochPacket)) (given : List Answer) → Stands n most i g (replica_node old) logs →
     WasSentMail g.sent i item → CameMail Came item → AllByRecursion Came old.deferred.items →
-    FindsPast may_hold most old.replica.stores logs → old.replica.unsaved ≡ false →
+    TellsLogs i logs packets → old.replica.unsaved ≡ false →
     MeetsItem (replica_ghosts may_hold) old item packets given new → new.replica.unsaved ≡ true →
     Moved Came n most i g (started_again (replica_node new)) (logs ++ reported_of new.replica ∷ []) []
-last_moves may_hold Came n most i g old new logs item packets given stands sent came held finds saved one unsaved =
+last_moves may_hold Came n most i g old new logs item packets given stands sent came held tells saved one unsaved =
     by_item item sent came one
   where
     quiet : (x : Item) → mail_tells x ≡ false →
-        ItemMoved may_hold Came n most i g old.replica new.replica logs packets (mail_tells x) →
+        ItemMoved Came n most i g old.replica new.replica logs packets (mail_tells x) →
         Moved Came n most i g (started_again (replica_node new)) (logs ++ reported_of new.replica ∷ []) []
     quiet x h m =
         let no : true ≡ false =
         sym unsaved
-        ∙ still_saved may_hold Came n most i g old new logs packets saved
-        (subst (λ (b : Bool). ItemMoved may_hold Came n most i g old.replica new.replica logs packets b) h m) in cc
+        ∙ still_saved Came n most i g old new logs packets saved
+        (subst (λ (b : Bool). ItemMoved Came n most i g old.replica new.replica logs packets b) h m) in cc
 
     by_item : (x : Item) → WasSentMail g.sent i x → CameMail Came x →
         MeetsItem (replica_ghosts may_hold) old x packets given new →
@@ -177,13 +180,13 @@ last_moves may_hold Came n most i g old new logs item packets given stands sent 
     by_item (mail.Request session entry) sent came one =
         quiet (mail.Request session entry) refl
         (meets_moves may_hold Came n most i g old new logs (mail.Request session entry) packets given stands sent came
-        held finds one)
+        held tells one)
     by_item mail.Tick sent came one =
         quiet mail.Tick refl
-        (meets_moves may_hold Came n most i g old new logs mail.Tick packets given stands sent came held finds one)
+        (meets_moves may_hold Came n most i g old new logs mail.Tick packets given stands sent came held tells one)
     by_item mail.Stop sent came one =
         quiet mail.Stop refl
-        (meets_moves may_hold Came n most i g old new logs mail.Stop packets given stands sent came held finds one)
+        (meets_moves may_hold Came n most i g old new logs mail.Stop packets given stands sent came held tells one)
 
 -- A turn in which a log was reported by its last item: the node ends before the first state after it was saved.
 pub broken_moves : {T S : Type 0} (may_hold : T → ℕ → SavedValue → Type 0) (Came : Entry → Type 0) (n most i : ℕ)
@@ -191,29 +194,31 @@ pub broken_moves : {T S : Type 0} (may_hold : T → ℕ → SavedValue → Type 
     (packets : List (ℕ × EpochPacket)) (given : List Answer) → HeldCome T S may_hold Came →
     Stands n most i g (replica_node old) logs → AllByRecursion (WasSentMail g.sent i) (before ++ last ∷ []) →
     AllByRecursion (CameMail Came) (before ++ last ∷ []) → AllByRecursion Came old.deferred.items →
-    FindsPast may_hold most old.replica.stores logs → NoneEnds before → old.replica.unsaved ≡ false →
+    TellsLogs i logs packets → NoneEnds before → old.replica.unsaved ≡ false →
     MeetsItems (replica_ghosts may_hold) old (before ++ last ∷ []) packets given new → new.replica.unsaved ≡ true →
     Moved Came n most i g (started_again (replica_node new)) (logs ++ reported_of new.replica ∷ []) []
-broken_moves {T} {S} may_hold Came n most i g old new logs [] last packets given comes stands sent came held finds none
+broken_moves {T} {S} may_hold Came n most i g old new logs [] last packets given comes stands sent came held tells none
     saved (mid, first, rest, early, late, packets_are, given_are, one, (rest_none, late_none, same)) unsaved =
     let now : mid.replica.unsaved ≡ true =
     ap (λ (r : DeferringReplica T S). r.replica.unsaved) (sym same) ∙ unsaved in
     subst (λ (r : DeferringReplica T S). Moved Came n most i g (started_again (replica_node r))
     (logs ++ reported_of r.replica ∷ []) []) (sym same)
-    (last_moves may_hold Came n most i g old mid logs last first early stands sent.0 came.0 held finds saved one now)
+    (last_moves may_hold Came n most i g old mid logs last first early stands sent.0 came.0 held
+    (tells_first i logs packets first rest packets_are tells) saved one now)
 broken_moves {T} {S} may_hold Came n most i g old new logs (item ∷ more) last packets given comes stands sent came held
-    finds none saved (mid, first, rest, early, late, packets_are, given_are, one, others) unsaved =
-    let m : ItemMoved may_hold Came n most i g old.replica mid.replica logs first false =
-    subst (λ (b : Bool). ItemMoved may_hold Came n most i g old.replica mid.replica logs first b)
+    tells none saved (mid, first, rest, early, late, packets_are, given_are, one, others) unsaved =
+    let m : ItemMoved Came n most i g old.replica mid.replica logs first false =
+    subst (λ (b : Bool). ItemMoved Came n most i g old.replica mid.replica logs first b)
     (ends_none item none.0)
-    (meets_moves may_hold Came n most i g old mid logs item first early stands sent.0 came.0 held finds one) in
+    (meets_moves may_hold Came n most i g old mid logs item first early stands sent.0 came.0 held
+    (tells_first i logs packets first rest packets_are tells) one) in
     let all =
     broken_moves may_hold Came n most i m.moved.later mid new logs more last rest late comes
-    (stands_then may_hold Came n most i g old.replica mid.replica logs first stands m)
+    (stands_then Came n most i g old.replica mid.replica logs first stands m)
     (all_later g.sent m.moved.later.sent i (more ++ last ∷ []) (λ x c. m.moved.sent x (inl c)) sent.1) came.1
     (comes old mid item first early one came.0 held)
-    (finds_later may_hold most old.replica.stores mid.replica.stores logs m.stores finds) none.1
-    (still_saved may_hold Came n most i g old mid logs first saved m) others unsaved in
+    (tells_last i logs packets first rest packets_are tells) none.1
+    (still_saved Came n most i g old mid logs first saved m) others unsaved in
     moved_as Came n most i g _ _ _ _ (first ++ []) [] refl refl (λ x c. absurd (Contains-none x c))
     (moved_then Came n most i g (replica_node mid) (started_again (replica_node new)) (logs_with logs m.log)
     (logs ++ reported_of new.replica ∷ []) first [] m.moved all)

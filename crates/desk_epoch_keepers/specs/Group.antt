@@ -1,11 +1,12 @@
 -- A group of keepers of nodes over epochs, and what happens in it.
-use Rattle.std.specs.Prelude.{◌≡◌, ◌≢◌, ◌<◌, ℕ, ◌+◌, ◌==◌, false, true, if◌then◌else◌, List, [], ◌∷◌, ◌++◌, length}
+use Rattle.std.specs.Prelude.{◌≡◌, ◌≢◌, ◌<◌, ℕ, ◌+◌, ◌==◌, false, true, if◌then◌else◌, List, [], ◌∷◌, ◌++◌}
 use Rattle.std.specs.Prelude.{take}
 use Rattle.std.specs.Prelude.{Contains, MatchBool, None, Some, slice_get}
 use Rattle.std.specs.List.{AllByRecursion}
 use mathlib.Core.List.{IsPrefix}
 use Rattle.desk_types.specs.declared.command.Entry.{Entry}
 use Rattle.desk_types.specs.declared.epoch_packet.EpochPacket.{EpochPacket}
+use Rattle.desk_types.specs.declared.epoch_packet.Purpose.TheVariants as purposes
 use Rattle.desk_log.specs.SavedValue.{SavedValue}
 use Rattle.desk_log.specs.declared.state_store.StateStore.{Ghosts}
 use Rattle.desk_mailbox.specs.declared.item.Item.{Item}
@@ -19,13 +20,12 @@ use Rattle.desk_epochs.specs.Epochs.{joined_logs}
 use Rattle.desk_epoch_node.specs.Does.{is_due, node_in_view}
 use Rattle.desk_epoch_node.specs.EpochValue.{EpochValue, committed_cut}
 use Rattle.desk_epoch_node.specs.PastRows.{PastValue, StandFor}
-use Rattle.desk_epoch_stores.specs.Starting.{saved_cut}
 use Rattle.desk_epoch_replica.specs.declared.deferring_replica.DeferringReplica.{DeferringReplica}
 use Rattle.desk_epoch_replica.specs.Deferring.{DeferringDoes, DeferringFollows, DeferringRefuses}
 use Rattle.desk_epoch_replica.specs.DeferringSaves.{deferring_saving, reported_of}
 use Rattle.desk_epoch_replica.specs.MemberValue.{new_member}
 use Rattle.desk_epoch_replica.specs.Saves.{IsSavedReplica}
-use Rattle.desk_epoch_group.specs.Group.{first_value, started_again}
+use Rattle.desk_epoch_group.specs.Group.{first_value, past_packet, started_again}
 use Rattle.desk_threads.specs.EndingItems.{OnlyLastEnds}
 use Rattle.desk_threads.specs.Replicas.{MeetsItems}
 use Rattle.desk_threads.specs.SavedItems.{SavesAndForgets}
@@ -69,20 +69,22 @@ WasHandedToNode handed i (items.Packet p) = Contains handed (i, p)
 WasHandedToNode handed i items.Tick = Unit {0}
 WasHandedToNode handed i items.Stop = Unit {0}
 
--- What is found in the store of a past epoch is the log of that epoch; and where all of it is committed, nothing stands
--- behind the epoch's end.
-abbrev pub FindsLogs : {T S : Type 0} → (T → ℕ → SavedValue → Type 0) → DeferringReplica T S → List (List Entry) →
-    Type 0
-FindsLogs may_hold r logs = (epoch : ℕ) (s : SavedValue) → epoch < (replica_node r).epoch →
-    may_hold r.replica.stores epoch s → (slice_get logs epoch ≡ Some (saved_cut (replica_node r).most s))
-    × (s.commit ≡ length s.log → saved_cut (replica_node r).most s ≡ s.log)
+-- Node i tells by this packet the log that is its epoch's of these, after some place.
+abbrev pub TellsLog : ℕ → List (List Entry) → EpochPacket → Type 0
+TellsLog i logs p = (base : ℕ) × (past_packet i base (slice_get logs p.epoch) ≡ Some p.packet)
+
+-- The store of each past epoch that node i read for these packets was found with the log that was saved in it: what
+-- they tell of an epoch is its log of these.
+abbrev pub TellsLogs : ℕ → List (List Entry) → List (ℕ × EpochPacket) → Type 0
+TellsLogs i logs packets = (to : ℕ) (p : EpochPacket) → Contains packets (to, p) → p.purpose ≡ purposes.Tell →
+    TellsLog i logs p
 
 -- A turn of node i makes this of its replica, before that is saved, and gives these packets. Each packet of the turn
--- was handed out before, and the stores of past epochs are found with their logs.
+-- was handed out before, and the stores of past epochs that were read were found with their logs.
 pub record OneEpochTurn {T S : Type 0} (may_hold : T → ℕ → SavedValue → Type 0) (i : ℕ) (old : EpochKeepers T S)
     (turn : List Item) (packets : List (ℕ × EpochPacket)) (made : DeferringReplica T S) : Type 0 where
   pub handed : AllByRecursion (WasHandedToNode old.handed i) turn
-  pub finds : FindsLogs may_hold (old.replicas i) (old.logs i)
+  pub tells : TellsLogs i (old.logs i) packets
   pub early : OnlyLastEnds turn
   pub answers : List Answer
   pub does : MeetsItems (replica_ghosts may_hold) (old.replicas i) turn packets answers made

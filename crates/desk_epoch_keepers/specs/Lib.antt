@@ -1,2 +1,4 @@
 pub mod Group
 pub mod Agreement
+pub mod Turns
+pub mod Starts

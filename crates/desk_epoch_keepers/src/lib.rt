@@ -8,13 +8,28 @@ ghost use Rattle.desk_epoch_keepers.specs.Agreement.{PublishedHistoryIsRising, P
 ghost use Rattle.desk_epoch_keepers.specs.Agreement.{PublishedHistoryRepliesAgree, PublishedHistoryRepliesStay};
 ghost use Rattle.desk_epoch_keepers.specs.Agreement.{ReadHistoryRepliesAgree};
 ghost use Rattle.desk_epoch_keepers.specs.Agreement.{OneHistory, HistoryRowsAreReplies};
+ghost use Rattle.desk_epoch_keepers.specs.Starts.{OpenedIsStart};
+ghost use Rattle.desk_epoch_keepers.specs.Turns.{TurnsAreActs, TurnsPublishHistory, TurnsShowAll};
 
 use desk_epoch_stores::EpochStores;
+use desk_threads::Out;
+
+/// That what `group` speaks of is what keepers promise. It does nothing: its clauses are the facts.
+pub fn turns<T: EpochStores, O: Out>()
+    // What `Keeper::run_turns` promises of a turn, and of what it does between two, is an act of a group.
+    ensures acts { TurnsAreActs T.may_hold T.Store.StateStore O.Out }
+    // What is published, over all turns and starts, is the first of what the node has committed of all epochs.
+    ensures published { TurnsPublishHistory T.may_hold T.Store.StateStore O.Out }
+    // Where a keeper says after a turn that all is published, that is all that its node has committed.
+    ensures whole { TurnsShowAll T.may_hold T.Store.StateStore O.Out }
+    // What `open_epochs` promises is such a start.
+    ensures starts { OpenedIsStart T.may_hold T.Store.StateStore }
+{}
 
 /// What is true of every group of three or five keepers of nodes over epochs, whatever turns of items they take, in
-/// whatever order, whenever they begin an epoch, and whenever they end and are started again, as long as each packet
-/// that is taken was handed out before for the node that takes it, and the stores of past epochs are found with the
-/// logs of those. It does nothing: its clauses are the facts.
+/// whatever order, whenever they begin an epoch, and whenever they end and are started again. Each packet that is taken
+/// was handed out before for the node that takes it. The store of a past epoch that is read to tell its log is found
+/// with the log that was saved in it. It does nothing: its clauses are the facts.
 pub fn group<T: EpochStores>()
     // What the keepers do are acts of a group of nodes of which `desk_epoch_group::group` speaks; later too.
     ensures nodes { KeepersMakeNodes T.may_hold T.Store.StateStore }

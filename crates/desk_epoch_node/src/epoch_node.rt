@@ -1,6 +1,6 @@
 //! A node over epochs, and what it knows of them.
 
-ghost use Rattle.std.specs.Prelude.{◌≡◌, ◌<◌, length};
+ghost use Rattle.std.specs.Prelude.{◌≡◌, ◌<◌, ◌≤◌, length};
 ghost use Rattle.desk_types.specs.declared.limits.TheConstants.{LAST_PLACE};
 ghost use Rattle.desk_log.specs.SavedValue.{committed_entries};
 ghost use Rattle.desk_epoch_node.specs.Ends.{reaches_end};
@@ -115,6 +115,14 @@ impl EpochNode {
         ensures { result ≡ standing_of self.now }
     {
         self.standing
+    }
+
+    /// How many entries end an epoch, 1 to 65,536.
+    pub fn most(&self) -> u64
+        ensures value { result ≡ self.now.most }
+        ensures least { 1 ≤ result }
+    {
+        self.most
     }
 
     /// The node's own token, which is 0 for those that begin a desk.

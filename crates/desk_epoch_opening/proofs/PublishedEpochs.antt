@@ -1,13 +1,11 @@
 -- What is noted and published as epochs are opened.
 use Rattle.std.proofs.Common.{◌≡◌, ◌≤◌, ◌+◌, ◌++◌, ◌∙◌, ℕ, List, [], ◌∷◌, length, take, refl, sym, ap, subst, arith}
 use Rattle.std.proofs.Common.{append-nil, length-append, suc, true}
-use Rattle.std.proofs.lemmas.Bool.{and_parts}
 use mathlib.Core.List.{IsPrefix}
 use Rattle.desk_types.specs.declared.command.Entry.{Entry}
-use Rattle.desk_log.specs.SavedValue.{SavedValue, committed_entries}
+use Rattle.desk_log.specs.SavedValue.{SavedValue}
 use Rattle.desk_published.specs.Writer.{EqualsPrefix, followed_by}
 use Rattle.desk_published.proofs.PrefixEquations.{is_front, is_prefix}
-use Rattle.desk_epoch_node.specs.Ends.{reaches_end}
 use Rattle.desk_epoch_node.specs.PastRows.{PastValue, StandFor}
 use Rattle.desk_epoch_stores.specs.Starting.{MayHoldLogs, is_finished, saved_cut}
 use Rattle.desk_epoch_opening.specs.Pasts.{past_in}
@@ -54,15 +52,16 @@ past_followed p past cut now stands is =
 -- Past logs with that of an epoch that is over are those of the next epoch.
 pub logs_on : (may_hold : ℕ → SavedValue → Type 0) (most given count epoch next : ℕ) (s : SavedValue)
     (before now : List Entry) → MayHoldLogs may_hold most epoch before → may_hold epoch s →
-    is_finished given count s ≡ true → given ≡ most → next ≡ epoch + 1 → now ≡ before ++ saved_cut given s →
-    MayHoldLogs may_hold most next now
-logs_on may_hold most given count epoch next s before now logs held over same is noted =
+    is_finished given count s ≡ true → count ≡ length before → given ≡ most → next ≡ epoch + 1 →
+    now ≡ before ++ saved_cut given s → MayHoldLogs may_hold most next now
+logs_on may_hold most given count epoch next s before now logs held over counted same is noted =
     let at : suc epoch ≡ next = omega (arith, is) in
     subst (λ (e : ℕ). MayHoldLogs may_hold most e now) at (
       before,
       s,
       logs,
       held,
-      subst (λ (m : ℕ). reaches_end m (committed_entries s) ≡ true) same (and_parts _ _ over).0,
+      subst (λ (n : ℕ). is_finished most n s ≡ true) counted
+          (subst (λ (m : ℕ). is_finished m count s ≡ true) same over),
       noted ∙ ap (λ (m : ℕ). before ++ saved_cut m s) same,
     )

@@ -4,5 +4,7 @@
 
 mod opening;
 mod publishing;
+mod refused_opening;
 
 pub use opening::open_epochs;
+pub use refused_opening::RefusedOpening;

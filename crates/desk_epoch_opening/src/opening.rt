@@ -1,10 +1,13 @@
 //! The keeper of a node over epochs at its start.
 
-ghost use Rattle.std.specs.Prelude.{◌≡◌, ◌≤◌, ◌<◌, false, [], length, replicate, All, None, IfOk};
+ghost use Rattle.std.specs.Prelude.{◌≡◌, ◌⊎◌, ◌≤◌, ◌<◌, false, [], length, replicate, All, None};
+ghost use Rattle.std.specs.Prelude.{IfOk, IfErr, IfSome, IsSome};
 ghost use Rattle.desk_types.specs.Group.{IsGroup};
 ghost use Rattle.desk_types.specs.declared.limits.TheConstants.{LOG_ENTRIES};
+ghost use Rattle.desk_types.specs.declared.refusal.Refusal.TheVariants as refusals;
 ghost use Rattle.desk_epoch_opening.specs.Opened.{IsOpened, StartsFrom};
 ghost use Rattle.desk_epoch_replica.specs.MemberValue.{HasPast};
+ghost use Rattle.desk_epoch_replica.specs.Refusals.{IsStartRefusal};
 ghost use Rattle.desk_epoch_replica.specs.Saves.{IsSavedReplica};
 ghost use Rattle.desk_epoch_stores.specs.Starting.{MayHoldNoMore};
 ghost use Rattle.desk_mailbox.specs.Ends.{IsNewSender, capacity_of, first_numbers, no_sender_left, numbers_of};
@@ -14,6 +17,7 @@ ghost use Rattle.desk_published.specs.Writer.{published};
 ghost use Rattle.desk_threads.specs.Waiting.{idle};
 
 use crate::publishing::publish_epochs;
+use crate::refused_opening::RefusedOpening;
 use desk_epoch_replica::{DeferringReplica, EpochReplica};
 use desk_epoch_stores::{EpochStores, OpenedEpoch};
 use desk_mailbox::{Item, Sender};
@@ -23,28 +27,51 @@ use desk_types::{Owner, Refusal};
 use std::alloc::Global;
 use std::sync::Wait;
 
-/// The replica of a node that starts in an epoch, which holds no requests.
-fn start_replica<T: EpochStores + Drop>(
+/// Why there is no keeper of a replica that is prepared.
+fn keeper_refusal(refusal: Refusal) -> Refusal
+    ensures { (result ≡ refusals.WantOfMemory) ⊎ (result ≡ refusals.StoreFault) }
+{
+    match &refusal {
+        Refusal::StoreFault => Refusal::StoreFault,
+        _ => Refusal::WantOfMemory,
+    }
+}
+
+/// The replica of a node that starts in an epoch, which holds no requests. The store of the next epoch is opened, but
+/// where memory is refused to that. Where it is refused otherwise, all stores are closed.
+fn start_replica<T: EpochStores>(
     alloc: Global,
     stores: T,
     opened: OpenedEpoch<T>,
     owner: Owner,
     token: u64,
-) -> Result<DeferringReplica<T>, Refusal>
+) -> Result<DeferringReplica<T>, RefusedOpening<T>>
     requires group { IsGroup owner.n }
     requires id { owner.id < owner.n }
     requires past { HasPast opened.past }
     ensures member { IfOk result (λ r. StartsFrom owner token opened.most opened.saved r.replica.member) }
     ensures epoch { IfOk result (λ r. r.replica.member.node.epoch ≡ opened.epoch) }
     ensures past { IfOk result (λ r. r.replica.member.node.past ≡ opened.past) }
-    ensures stores { IfOk result (λ r. r.replica.stores ≡ stores) }
-    ensures next { IfOk result (λ r. r.replica.next ≡ None) }
+    ensures stores { IfOk result (λ r. MayHoldNoMore T.may_hold stores r.replica.stores) }
     ensures store { IfOk result (λ r. T.Store.last r.replica.current ≡ opened.saved) }
     ensures reported { IfOk result (λ r. r.replica.reported ≡ None) }
     ensures deferred { IfOk result (λ r. r.deferred.items ≡ []) }
     ensures saved { IfOk result (λ r. IsSavedReplica T.Store.StateStore r.replica) }
+    ensures fault { IfErr result (λ refused. IsStartRefusal refused.refusal) }
+    ensures back { IfErr result (λ refused. IsSome refused.stores) }
+    ensures same { IfErr result (λ refused. IfSome refused.stores (MayHoldNoMore T.may_hold stores)) }
 {
-    let replica = EpochReplica::start(alloc, stores, opened, owner, token)?;
+    let mut replica = match EpochReplica::start(alloc, stores, opened, owner, token) {
+        Ok(replica) => replica,
+        Err(stores) => return Err(RefusedOpening::with(Refusal::WantOfMemory, stores)),
+    };
+    if let Err(refusal) = replica.prepare_unless_replaced() {
+        // For want of memory it is tried again after a turn.
+        if !refusal.is_want_of_memory() {
+            let (back, _) = replica.into_stores().close();
+            return Err(RefusedOpening::with(refusal, back));
+        }
+    }
     Ok(DeferringReplica::new(alloc, replica))
 }
 
@@ -52,8 +79,8 @@ fn start_replica<T: EpochStores + Drop>(
 /// node with its token, which is 0 for those that begin a desk. It goes on in the first epoch that is not over, as it
 /// was saved last there, and has heard nothing since. With it come the senders and the ends of sessions that
 /// `open_replica` gives. All that is committed over all epochs is published before the first item. Err is
-/// `WantOfMemory`, or what refused the opening of a store: `StoreFault` or `WrongFile`. It is `StoreFault` too where
-/// that of the next epoch is refused.
+/// `WantOfMemory`, or what refused the opening of a store, also of that of the next epoch: `StoreFault` or `WrongFile`.
+/// It is `NodeStopped` where another node acts in its place.
 pub fn open_epochs<B: BoardName, T: EpochStores + Drop, R: Wait>(
     rt: &R,
     alloc: Global,
@@ -68,7 +95,7 @@ pub fn open_epochs<B: BoardName, T: EpochStores + Drop, R: Wait>(
         Vec<Sender<Item>>,
         Vec<SessionEnds<B>>,
     ),
-    Refusal,
+    RefusedOpening<T>,
 >
     requires book { history.seen.book ≡ B.book }
     requires domain { owner.domain ≡ B.domain }
@@ -92,24 +119,35 @@ pub fn open_epochs<B: BoardName, T: EpochStores + Drop, R: Wait>(
     ensures sessions_count { IfOk result (λ ends. length ends.2.items ≡ SESSIONS) }
     ensures readers { IfOk result (λ ends. All (λ s. s.reader.pass ≡ published ends.0.writer.inner)
         ends.2.items) }
+    ensures fault { IfErr result (λ refused. IsStartRefusal refused.refusal) }
+    // What opens the stores tells which of them is missing or another node's.
+    ensures back { IfErr result (λ refused. refused.refusal ≡ refusals.WrongFile → IsSome refused.stores) }
+    ensures same { IfErr result (λ refused. IfSome refused.stores (MayHoldNoMore T.may_hold stores)) }
 {
     let mut stores = stores;
-    let writer = BoardWriter::<B>::new(alloc, &owner.domain, history, SESSIONS)?;
+    let Ok(writer) = BoardWriter::<B>::new(alloc, &owner.domain, history, SESSIONS) else {
+        return Err(RefusedOpening::with(Refusal::WantOfMemory, stores));
+    };
     let (writer, outcome) = publish_epochs(rt, alloc, writer, &mut stores, most);
     let opened = match outcome {
         Ok(opened) => opened,
         Err(refusal) => {
             writer.end(rt);
-            return Err(refusal);
+            return Err(RefusedOpening::with(refusal, stores));
         }
     };
     let replica = match start_replica(alloc, stores, opened, owner, token) {
         Ok(replica) => replica,
-        Err(refusal) => {
+        Err(refused) => {
             writer.end(rt);
-            return Err(refusal);
+            return Err(refused);
         }
     };
-    let (keeper, senders, sessions) = open_replica(rt, alloc, writer, replica)?;
-    Ok((keeper, senders, sessions))
+    match open_replica(rt, alloc, writer, replica) {
+        Ok(ends) => Ok(ends),
+        Err(refusal) => Err(RefusedOpening {
+            refusal: keeper_refusal(refusal),
+            stores: None,
+        }),
+    }
 }

@@ -1,9 +1,10 @@
 //! How what a node's epochs have committed is published as they are opened.
 
-ghost use Rattle.std.specs.Prelude.{◌≡◌, ◌≤◌, ◌++◌, [], true, false, length, IfOk};
+ghost use Rattle.std.specs.Prelude.{◌≡◌, ◌≤◌, ◌++◌, [], true, false, length, IfOk, IfErr};
 ghost use Rattle.desk_types.specs.declared.limits.TheConstants.{LOG_ENTRIES};
 ghost use Rattle.desk_epoch_opening.specs.Pasts.{past_in};
 ghost use Rattle.desk_epoch_node.specs.PastRows.{StandFor};
+ghost use Rattle.desk_epoch_stores.specs.Refusals.{IsEpochRefusal};
 ghost use Rattle.desk_epoch_stores.specs.Starting.{MayHoldLogs, MayHoldNoMore, is_finished, saved_cut};
 ghost use Rattle.desk_published.specs.Writer.{followed_by, published};
 
@@ -31,7 +32,8 @@ fn publish_epoch<B: BoardName, T: EpochStores, R: Wait>(
 
 /// Opens a node's epochs from the first on, up to the first that is not over, and publishes what is committed of each.
 /// So the log of a past epoch is in memory only until it is published. An epoch ends after so many entries, 1 to
-/// 65,536. Err is `WantOfMemory`, also where there is no memory to publish all, or what refused the opening of a store.
+/// 65,536. Err is `WantOfMemory`, also where there is no memory to publish all, or what refused the opening of a store;
+/// no store is open then.
 pub(crate) fn publish_epochs<B: BoardName, T: EpochStores, R: Wait>(
     rt: &R,
     alloc: Global,
@@ -51,6 +53,7 @@ pub(crate) fn publish_epochs<B: BoardName, T: EpochStores, R: Wait>(
     ensures noted { IfOk result.1 (λ o. result.0.noted
         ≡ followed_by o.past.length result.0.noted (saved_cut most o.saved)) }
     ensures shown { IfOk result.1 (λ _. published result.0.inner ≡ result.0.noted) }
+    ensures fault { IfErr result.1 IsEpochRefusal }
     ensures same { MayHoldNoMore T.may_hold stores.old stores.new }
 {
     let mut writer = writer;
@@ -62,6 +65,7 @@ pub(crate) fn publish_epochs<B: BoardName, T: EpochStores, R: Wait>(
         let (back, whole) = publish_epoch(rt, writer, &opened);
         writer = back;
         if !whole {
+            let _ = opened.close(stores);
             return (writer, Err(Refusal::WantOfMemory));
         }
         if !opened.is_finished() {

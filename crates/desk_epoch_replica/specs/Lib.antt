@@ -10,3 +10,4 @@ pub mod Outgoing
 pub mod Deferring
 pub mod DeferringSaves
 pub mod DeferringBeginnings
+pub mod Refusals

@@ -55,6 +55,17 @@ impl<T: EpochStores> DeferringReplica<T> {
         &self.replica
     }
 
+    /// What does the items, without the requests that are held.
+    pub fn into_replica(self) -> EpochReplica<T>
+        ensures { result ≡ self.replica }
+    {
+        let DeferringReplica {
+            replica,
+            deferred: _,
+        } = self;
+        replica
+    }
+
     /// How many requests are held.
     pub fn deferred(&self) -> usize
         ensures { result ≡ length self.now.deferred.items }

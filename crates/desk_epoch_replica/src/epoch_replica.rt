@@ -1,18 +1,20 @@
 //! A member of a group that goes on over epochs, with its stores.
 
-ghost use Rattle.std.specs.Prelude.{◌≡◌, ◌<◌, ◌+◌, ◌⊎◌, List, false, length, None, Some, Err, IfOk, IfErr};
+ghost use Rattle.std.specs.Prelude.{◌≡◌, ◌<◌, ◌≤◌, ◌+◌, ◌⊎◌, List, false, length, None, Some, Err, IfOk, IfErr};
 ghost use Rattle.std.specs.Prelude.{IfSome, MatchOption, MatchResult, OnOk, OnErr, true};
 ghost use Rattle.std.specs.Option.{is_some};
 ghost use Rattle.desk_types.specs.Group.{IsGroup};
 ghost use Rattle.desk_types.specs.declared.command.Entry.{Entry as AnEntry};
 ghost use Rattle.desk_types.specs.declared.refusal.Refusal.TheVariants as refusals;
 ghost use Rattle.desk_node.specs.NodeValue.{node_from};
-ghost use Rattle.desk_epoch_stores.specs.Starting.{MayHoldNoMore};
+ghost use Rattle.desk_epoch_stores.specs.Refusals.{IsEpochRefusal};
+ghost use Rattle.desk_epoch_stores.specs.Starting.{MayHoldNoMore, saved_cut};
 ghost use Rattle.desk_epoch_node.specs.PastRows.{StandFor};
 ghost use Rattle.desk_epoch_replica.specs.Follows.{ReplicaDoes, ReplicaFollows, ReplicaRefuses};
 ghost use Rattle.desk_epoch_replica.specs.Follows.{reported_after, unsaved_after};
 ghost use Rattle.desk_epoch_replica.specs.MemberValue.{HasPast, new_member};
 ghost use Rattle.desk_epoch_replica.specs.ReplicaValue.{ReplicaValue, is_replaced, takes_logs, with_stores};
+ghost use Rattle.desk_epoch_replica.specs.Refusals.{IsStartRefusal};
 ghost use Rattle.desk_epoch_replica.specs.Saves.{FailsToBegin, FailsToPrepare, IsPrepared, PreparesReplica};
 ghost use Rattle.desk_epoch_replica.specs.Saves.{ReplicaBegins, FailsToSaveReplica, IsSavedReplica, SavesReplica};
 ghost use Rattle.desk_epoch_replica.specs.PastPackets.{IsPastPacket};
@@ -21,12 +23,22 @@ ghost use Rattle.desk_epoch_replica.specs.Saves.{replica_base, replica_cut, may_
 use crate::epoch_member::EpochMember;
 use crate::item::EpochItem;
 use crate::replica_step::ReplicaStep;
-use desk_epoch_node::{Ended, EpochNode, Standing, tell_log};
-use desk_epoch_stores::{EpochStores, NodeStores, OpenedEpoch, reported_state};
+use desk_epoch_node::{Ended, EpochNode, Standing, cut_at_commit, first_cut, tell_log};
+use desk_epoch_stores::{EndedStores, EpochStores, NodeStores, OpenedEpoch, reported_state};
 use desk_log::{Log, Saved, StateStore};
 use desk_types::{Entry, Owner, Packet, Refusal, WantOfMemory};
 use std::alloc::Global;
 use std::marker::Model;
+
+/// Whether all of a state's log is committed and of its epoch, which ends after so many entries, `most`, at least 1, or
+/// after one that names a replacement.
+fn holds_whole_log(left: &Saved, most: u64) -> bool
+    requires least { 1 ≤ most }
+    ensures { result ≡ true → saved_cut most left.now ≡ left.now.log }
+{
+    let cut = cut_at_commit(first_cut(), 0, left, most);
+    cut.count >= left.log().len()
+}
 
 /// A member of a group that goes on over epochs, with its stores. A log that it was told is held until all of it is
 /// published.
@@ -64,16 +76,17 @@ impl<T: EpochStores> Model for EpochReplica<T> {
     } };
 }
 
-impl<T: EpochStores + Drop> EpochReplica<T> {
+impl<T: EpochStores> EpochReplica<T> {
     /// The replica of a node that starts in an epoch, with its token, which is 0 for those that begin a desk, and with
-    /// what opens the stores of others. It takes memory for each node of the group.
+    /// what opens the stores of others. It takes memory for each node of the group. Where that is refused, Err gives
+    /// back what opens the stores, and that of the epoch is closed.
     pub fn start(
         alloc: Global,
         stores: T,
         opened: OpenedEpoch<T>,
         owner: Owner,
         token: u64,
-    ) -> Result<EpochReplica<T>, WantOfMemory>
+    ) -> Result<EpochReplica<T>, T>
         requires group { IsGroup owner.n }
         requires id { owner.id < owner.n }
         requires past { HasPast opened.past }
@@ -87,8 +100,10 @@ impl<T: EpochStores + Drop> EpochReplica<T> {
         ensures stores { IfOk result (λ r. (r.stores ≡ stores) × (r.current ≡ opened.store) × (r.next ≡ None)) }
         ensures reported { IfOk result (λ r. r.reported ≡ None) }
         ensures saved { IfOk result (λ r. IsSavedReplica T.Store.StateStore r) }
+        ensures refused { IfErr result (λ back. MayHoldNoMore T.may_hold stores back) }
     {
         let (node, store) = opened.into_node(alloc, owner, token);
+        let epoch = node.epoch();
         match EpochMember::new(alloc, node) {
             Ok(member) => Ok(EpochReplica {
                 member,
@@ -96,16 +111,39 @@ impl<T: EpochStores + Drop> EpochReplica<T> {
                 reported: None,
                 unsaved: false,
             }),
-            Err(refused) => {
-                drop(store);
-                drop(stores);
-                Err(refused)
+            Err(_) => {
+                let mut stores = stores;
+                let _ = stores.close(epoch, store);
+                Err(stores)
             }
         }
     }
-}
 
-impl<T: EpochStores> EpochReplica<T> {
+    /// The stores that it has open, which are to be closed where it ends.
+    pub fn into_stores(self) -> EndedStores<T, T::Store>
+        ensures { result ≡ record {
+          stores = self.stores;
+          epoch = self.member.node.epoch;
+          current = self.current;
+          next = self.next;
+        } }
+    {
+        let epoch = self.node().epoch();
+        let EpochReplica {
+            member: _,
+            stores,
+            reported: _,
+            unsaved: _,
+        } = self;
+        let (stores, current, next) = stores.into_parts();
+        EndedStores {
+            stores,
+            epoch,
+            current,
+            next,
+        }
+    }
+
     /// The node over epochs, as the items so far left it.
     pub fn node(&self) -> &EpochNode
         ensures { result.now ≡ self.now.member.node }
@@ -197,17 +235,19 @@ impl<T: EpochStores> EpochReplica<T> {
     }
 
     /// The packet by which it tells the log of a past epoch after a place. None where the log has no such place, its
-    /// store cannot be opened or has an entry that is not committed, or memory is refused.
+    /// store cannot be opened or has an entry that is not committed, or one after the epoch's end, or memory is
+    /// refused.
     pub fn past_packet(&mut self, epoch: u64, base: u64) -> Option<Packet>
         ensures packet { IfSome result (IsPastPacket (T.may_hold self.old.stores epoch) self.old.member.node base) }
         ensures rest { self.new ≡ with_stores self.new.stores self.old }
         ensures stores { MayHoldNoMore T.may_hold self.old.stores self.new.stores }
     {
         let left = self.stores.state_of(epoch)?;
-        if left.commit() < left.log().len() {
+        let node = self.member.node();
+        if !holds_whole_log(&left, node.most()) {
             return None;
         }
-        tell_log(self.member.node().node().id(), left.log(), base).ok()?
+        tell_log(node.node().id(), left.log(), base).ok()?
     }
 
     /// Counts an item that was refused for want of memory.
@@ -240,7 +280,7 @@ impl<T: EpochStores> EpochReplica<T> {
             unreachable!();
         };
         let before = stores.begin_with_rest(member.node(), reported, known)?;
-        drop(before);
+        let _ = stores.close(member.node().epoch().saturating_sub(1), before);
         *unsaved = false;
         Ok(())
     }
@@ -254,6 +294,7 @@ impl<T: EpochStores> EpochReplica<T> {
         ensures reported { (self.new.reported ≡ self.old.reported) × (self.new.unsaved ≡ self.old.unsaved) }
         ensures ready { OnOk result (is_some self.new.next ≡ true) }
         ensures refused { OnErr result (self.new ≡ with_stores self.new.stores self.old) }
+        ensures fault { IfErr result IsEpochRefusal }
         ensures stores { MayHoldNoMore T.may_hold self.old.stores self.new.stores }
         ensures held { self.old.next ≡ None → IfSome self.new.next
             (λ store. T.may_hold self.old.stores (self.old.member.node.epoch + 1) (T.Store.last store)) }
@@ -273,8 +314,9 @@ impl<T: EpochStores> EpochReplica<T> {
 
     /// Opens the store of the next epoch, as `prepare` does. One that was replaced begins no epoch any more: it is
     /// refused by `NodeStopped`.
-    pub(crate) fn prepare_unless_replaced(&mut self) -> Result<(), Refusal>
+    pub fn prepare_unless_replaced(&mut self) -> Result<(), Refusal>
         ensures prepares { PreparesReplica T.may_hold self.old self.new }
+        ensures fault { IfErr result IsStartRefusal }
         ensures ready { OnOk result (IsPrepared self.new) }
         ensures refused { OnErr result (FailsToPrepare T.may_hold self.old self.new) }
         ensures replaced { is_replaced self.old ≡ true → result ≡ Err refusals.NodeStopped }

@@ -1,6 +1,5 @@
 -- The past logs of the next epoch.
 use Rattle.std.proofs.Common.{◌≡◌, ◌+◌, ℕ, suc, true, List, ◌++◌, refl, subst, arith}
-use Rattle.std.proofs.lemmas.Bool.{and_parts}
 use Rattle.desk_types.specs.declared.command.Entry.{Entry}
 use Rattle.desk_log.specs.SavedValue.{SavedValue}
 use Rattle.desk_epoch_node.specs.PastRows.{PastValue, StandFor}
@@ -19,5 +18,5 @@ logs_next may_hold most epoch next old new s (past, stand, logs) held over is mo
       past ++ saved_cut most s,
       more past stand,
       subst (λ (e : ℕ). MayHoldLogs may_hold most e (past ++ saved_cut most s)) at
-          (past, s, logs, held, (and_parts _ _ over).0, refl),
+          (past, s, logs, held, subst (λ n. is_finished most n s ≡ true) stand.length_is over, refl),
     )

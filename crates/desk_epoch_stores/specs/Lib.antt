@@ -1,2 +1,4 @@
 pub mod Starting
 pub mod EpochEnds
+pub mod Refusals
+pub mod InMemory

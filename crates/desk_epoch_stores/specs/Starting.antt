@@ -1,5 +1,5 @@
 -- What a node over epochs finds in its stores where it starts.
-use Rattle.std.specs.Prelude.{◌≡◌, ◌≤◌, ℕ, ◌+◌, true, zero, suc, List, [], ◌++◌, Bool, ◌&&◌, nat_le}
+use Rattle.std.specs.Prelude.{◌≡◌, ◌≤◌, ℕ, ◌+◌, true, zero, suc, List, [], ◌++◌, Bool, ◌&&◌, nat_le, length}
 use Rattle.desk_types.specs.declared.command.Entry.{Entry}
 use Rattle.desk_types.specs.declared.limits.TheConstants.{LAST_PLACE, LOG_ENTRIES}
 use Rattle.desk_log.specs.SavedValue.{SavedValue, committed_entries}
@@ -25,9 +25,10 @@ saved_cut most s = cut_of most (committed_entries s)
 abbrev pub is_finished : ℕ → ℕ → SavedValue → Bool
 is_finished most past s = reaches_end most (committed_entries s) && nat_le (past + most + most) LAST_PLACE
 
--- The past logs of an epoch are these, where the stores of the epochs before it may hold states that have ended.
+-- The past logs of an epoch are these, where the stores of the epochs before it may hold states that have ended, each
+-- with places after it for one more.
 abbrev pub MayHoldLogs : (ℕ → SavedValue → Type 0) → ℕ → ℕ → List Entry → Type 0
 MayHoldLogs may_hold most zero past = past ≡ []
 MayHoldLogs may_hold most (suc epoch) past =
     (before : List Entry) × (s : SavedValue) × MayHoldLogs may_hold most epoch before × may_hold epoch s
-    × (reaches_end most (committed_entries s) ≡ true) × (past ≡ before ++ saved_cut most s)
+    × (is_finished most (length before) s ≡ true) × (past ≡ before ++ saved_cut most s)

@@ -9,6 +9,7 @@ ghost use Rattle.desk_epoch_node.specs.Does.{BeginsAfter, is_due};
 ghost use Rattle.desk_epoch_node.specs.EpochValue.{committed_cut};
 ghost use Rattle.desk_epoch_node.specs.PastRows.{StandFor};
 ghost use Rattle.desk_epoch_stores.specs.EpochEnds.{reported_saved};
+ghost use Rattle.desk_epoch_stores.specs.Refusals.{IsEpochRefusal};
 ghost use Rattle.desk_epoch_stores.specs.Starting.{MayHoldNoMore};
 
 use crate::epoch_stores::EpochStores;
@@ -64,6 +65,7 @@ impl<T: EpochStores> NodeStores<T> {
         ensures current { self.new.current ≡ self.old.current }
         ensures ready { OnOk result (is_some self.new.next ≡ true) }
         ensures refused { OnErr result (self.new.next ≡ self.old.next) }
+        ensures fault { IfErr result IsEpochRefusal }
         ensures same { MayHoldNoMore T.may_hold self.old.stores self.new.stores }
         ensures held { self.old.next ≡ None → IfSome self.new.next
             (λ store. T.may_hold self.old.stores (node.now.epoch + 1) (T.Store.last store)) }
@@ -87,7 +89,7 @@ impl<T: EpochStores> NodeStores<T> {
             return None;
         };
         let saved = store.copy_last().ok();
-        drop(store);
+        let _ = self.stores.close(epoch, store);
         saved
     }
 
@@ -107,8 +109,8 @@ impl<T: EpochStores> NodeStores<T> {
     }
 
     /// Saves the first state of an epoch in the next store, which is that of the node's epoch from then on, and gives
-    /// the store before. Where that save fails, the store before is still the node's.
-    fn enter(&mut self, first: &Saved) -> Result<T::Store, Refusal>
+    /// the store before. Where that save fails, the store before is still the node's, and the next one is closed.
+    fn enter(&mut self, epoch: u64, first: &Saved) -> Result<T::Store, Refusal>
         requires ready { is_some self.old.next ≡ true }
         ensures before { IfOk result (λ store. store ≡ self.old.current) }
         ensures last { OnOk result (T.Store.last self.new.current ≡ first.now) }
@@ -122,7 +124,7 @@ impl<T: EpochStores> NodeStores<T> {
         match next.save_state(first, 0) {
             Ok(()) => Ok(mem::replace(&mut self.current, next)),
             Err(refusal) => {
-                drop(next);
+                let _ = self.stores.close(epoch, next);
                 Err(refusal)
             }
         }
@@ -152,15 +154,16 @@ impl<T: EpochStores> NodeStores<T> {
         if !self.is_ready() {
             return Ok(None);
         }
+        let epoch = node.epoch();
         let Ok(begun) = node.begin_next() else {
             return Err(Refusal::WantOfMemory);
         };
         let Some(ended) = begun else {
             return Ok(None);
         };
-        match self.enter(node.node().saved()) {
+        match self.enter(node.epoch(), node.node().saved()) {
             Ok(before) => {
-                drop(before);
+                let _ = self.stores.close(epoch, before);
                 Ok(Some(ended))
             }
             Err(refusal) => {
@@ -193,7 +196,27 @@ impl<T: EpochStores> NodeStores<T> {
         ensures fault { IfErr result (λ r. r ≡ refusals.StoreFault) }
     {
         self.save(reported, known)?;
-        self.enter(node.node().saved())
+        self.enter(node.epoch(), node.node().saved())
+    }
+
+    /// Closes the store of an epoch that has ended, as `EpochStores::close` does.
+    pub fn close(&mut self, epoch: u64, store: T::Store) -> bool
+        ensures open { (self.new.current ≡ self.old.current) × (self.new.next ≡ self.old.next) }
+        ensures same { MayHoldNoMore T.may_hold self.old.stores self.new.stores }
+    {
+        self.stores.close(epoch, store)
+    }
+
+    /// What opens the stores, that of the node's epoch, and that of the next one where it is open.
+    pub fn into_parts(self) -> (T, T::Store, Option<T::Store>)
+        ensures { result ≡ (self.stores, self.current, self.next) }
+    {
+        let NodeStores {
+            stores,
+            current,
+            next,
+        } = self;
+        (stores, current, next)
     }
 }
 

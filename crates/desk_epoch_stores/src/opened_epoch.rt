@@ -1,6 +1,6 @@
 //! An epoch of a node that starts.
 
-ghost use Rattle.std.specs.Prelude.{◌≡◌, ◌≤◌, ◌<◌, ◌+◌, ◌++◌, ℕ, true, false, [], List, IfOk};
+ghost use Rattle.std.specs.Prelude.{◌≡◌, ◌≤◌, ◌<◌, ◌+◌, ◌++◌, ℕ, true, false, [], List, IfOk, IfErr};
 ghost use Rattle.desk_types.specs.Group.{IsGroup};
 ghost use Rattle.desk_types.specs.declared.command.Entry.{Entry as AnEntry};
 ghost use Rattle.desk_types.specs.declared.limits.TheConstants.{LOG_ENTRIES};
@@ -8,7 +8,8 @@ ghost use Rattle.desk_log.specs.SavedValue.{SavedValue, committed_entries};
 ghost use Rattle.desk_node.specs.NodeValue.{node_from};
 ghost use Rattle.desk_epoch_node.specs.Ends.{IsCut};
 ghost use Rattle.desk_epoch_node.specs.PastRows.{StandFor};
-ghost use Rattle.desk_epoch_stores.specs.Starting.{HasPlaces, MayHoldLogs, is_finished, saved_cut};
+ghost use Rattle.desk_epoch_stores.specs.Refusals.{IsEpochRefusal};
+ghost use Rattle.desk_epoch_stores.specs.Starting.{HasPlaces, MayHoldLogs, MayHoldNoMore, is_finished, saved_cut};
 
 use crate::epoch_stores::EpochStores;
 use desk_epoch_node::{Cut, EpochNode, PastLogs, cut_at_commit, first_cut};
@@ -58,6 +59,7 @@ impl<T: EpochStores> OpenedEpoch<T> {
         requires places { HasPlaces epoch past.length most }
         ensures opened { IfOk result (λ o. (o.epoch ≡ epoch) × (o.past ≡ past) × (o.most ≡ most)) }
         ensures held { IfOk result (λ o. T.may_hold stores.old epoch o.saved) }
+        ensures fault { IfErr result IsEpochRefusal }
         ensures same { (e : ℕ) → (s : SavedValue) → T.may_hold stores.new e s → T.may_hold stores.old e s }
     {
         let store = stores.open(epoch)?;
@@ -74,7 +76,7 @@ impl<T: EpochStores> OpenedEpoch<T> {
                 })
             }
             Err(_) => {
-                drop(store);
+                let _ = stores.close(epoch, store);
                 Err(Refusal::WantOfMemory)
             }
         }
@@ -87,6 +89,7 @@ impl<T: EpochStores> OpenedEpoch<T> {
         ensures opened { IfOk result (λ o. (o.epoch ≡ 0) × (o.most ≡ most)) }
         ensures past { IfOk result (λ o. StandFor [] o.past) }
         ensures held { IfOk result (λ o. T.may_hold stores.old 0 o.saved) }
+        ensures fault { IfErr result IsEpochRefusal }
         ensures same { (e : ℕ) → (s : SavedValue) → T.may_hold stores.new e s → T.may_hold stores.old e s }
     {
         OpenedEpoch::open(stores, 0, PastLogs::new(alloc), most)
@@ -115,21 +118,38 @@ impl<T: EpochStores> OpenedEpoch<T> {
         self.cut.ended && self.past.len() + self.most + self.most <= LAST_PLACE
     }
 
-    /// Opens the epoch after one that is over. It takes memory for each client of past logs.
+    /// Closes its store, where it is not gone on with, as `EpochStores::close` does.
+    pub fn close(self, stores: &mut T) -> bool
+        ensures same { MayHoldNoMore T.may_hold stores.old stores.new }
+    {
+        let OpenedEpoch {
+            epoch,
+            past: _,
+            most: _,
+            store,
+            saved: _,
+            cut: _,
+        } = self;
+        stores.close(epoch, store)
+    }
+
+    /// Closes the store of an epoch that is over, and opens the epoch after. It takes memory for each client of past
+    /// logs.
     pub fn next(self, stores: &mut T) -> Result<OpenedEpoch<T>, Refusal>
         requires over { is_finished self.most self.past.length self.saved ≡ true }
         ensures opened { IfOk result (λ o. (o.epoch ≡ self.epoch + 1) × (o.most ≡ self.most)) }
         ensures past { IfOk result (λ o. (past : List AnEntry) → StandFor past self.past →
             StandFor (past ++ saved_cut self.most self.saved) o.past) }
         ensures held { IfOk result (λ o. T.may_hold stores.old o.epoch o.saved) }
+        ensures fault { IfErr result IsEpochRefusal }
         ensures same { (e : ℕ) → (s : SavedValue) → T.may_hold stores.new e s → T.may_hold stores.old e s }
     {
-        let Ok(past) = self.past.followed_by(self.committed()) else {
-            drop(self);
+        let followed = self.past.followed_by(self.committed());
+        let (epoch, most) = (self.epoch + 1, self.most);
+        let _ = self.close(stores);
+        let Ok(past) = followed else {
             return Err(Refusal::WantOfMemory);
         };
-        let (epoch, most) = (self.epoch + 1, self.most);
-        drop(self);
         OpenedEpoch::open(stores, epoch, past, most)
     }
 
@@ -143,6 +163,7 @@ impl<T: EpochStores> OpenedEpoch<T> {
         ensures past { IfOk result (λ o. (past : List AnEntry) × StandFor past o.past
             × MayHoldLogs (T.may_hold stores.old) most o.epoch past) }
         ensures held { IfOk result (λ o. T.may_hold stores.old o.epoch o.saved) }
+        ensures fault { IfErr result IsEpochRefusal }
     {
         let mut opened = OpenedEpoch::first(alloc, stores, most)?;
         for epoch in 0..LAST_PLACE {

@@ -1,5 +1,5 @@
 -- What a keeper does between two turns, and what that makes of the turns before it.
-use Rattle.std.proofs.Common.{◌≡◌, ◌++◌, inl, inr, ℕ, List, [], ◌∷◌, refl, sym, ◌∙◌, subst}
+use Rattle.std.proofs.Common.{◌≡◌, ◌++◌, inl, inr, ℕ, Bool, false, List, [], ◌∷◌, refl, sym, ◌∙◌, subst}
 use Rattle.desk_types.specs.declared.epoch_packet.EpochPacket.{EpochPacket}
 use Rattle.desk_types.specs.declared.refusal.Refusal.{Refusal}
 use Rattle.desk_types.specs.declared.refusal.Refusal.TheVariants as refusals
@@ -15,12 +15,17 @@ use Rattle.desk_threads.proofs.KeeperRuns.{KeepsFurther, KeepsStill, TakesNone}
 use Rattle.desk_threads.proofs.KeeperTurns.{KeepsBy, between_stays, took_last, turn_stays, turns_none}
 use Rattle.desk_threads.proofs.KeeperTurns.{turns_one}
 
+-- where not all is published, no epoch begins: the replica is as it was, and nothing goes out
+abbrev pub WaitsForAll : {R : Type 0} → Bool → List (ℕ × EpochPacket) → R → R → Type 0
+WaitsForAll whole packets old new = whole ≡ false → (packets ≡ []) × (new ≡ old)
+
 -- nothing was done
 pub advances_none : {O R : Type 0} (g : Ghosts O) (s : Saving R) → TakesNone g → (old : Stand O R) →
     AdvancesBetween g s old old
 advances_none g s none old = record {
   packets = [];
   advances = (old.replica, inl (refl, refl), inl refl);
+  waits = λ lags. (refl, inl refl);
   gave = none old.out;
   waiting = refl;
   published = refl;
@@ -30,11 +35,13 @@ advances_none g s none old = record {
 -- it may have begun the next epoch
 pub advances_begun : {O R : Type 0} (g : Ghosts O) (s : Saving R) (old new : Stand O R) →
     (packets : List (ℕ × EpochPacket)) × MayBegin s old.replica packets new.replica
-    × g.takes old.out packets new.out → new.waiting ≡ old.waiting → new.published ≡ old.published →
-    new.all_published ≡ old.all_published → AdvancesBetween g s old new
-advances_begun g s old new (packets, begins, gave) waiting published all_published = record {
+    × g.takes old.out packets new.out × WaitsForAll old.all_published packets old.replica new.replica →
+    new.waiting ≡ old.waiting → new.published ≡ old.published → new.all_published ≡ old.all_published →
+    AdvancesBetween g s old new
+advances_begun g s old new (packets, begins, gave, waits) waiting published all_published = record {
   packets = packets;
   advances = (new.replica, begins, inl refl);
+  waits = λ lags. let w = waits lags in (w.0, inl w.1);
   gave = gave;
   waiting = waiting;
   published = published;
@@ -44,18 +51,22 @@ advances_begun g s old new (packets, begins, gave) waiting published all_publish
 -- and then it may have prepared the beginning after that
 pub advances_prepared : {O R : Type 0} (g : Ghosts O) (s : Saving R) (old mid new : Stand O R) →
     (packets : List (ℕ × EpochPacket)) × MayBegin s old.replica packets mid.replica
-    × g.takes old.out packets mid.out → mid.waiting ≡ old.waiting → mid.published ≡ old.published →
-    mid.all_published ≡ old.all_published → MayPrepare s mid.replica new.replica → new.out ≡ mid.out →
-    new.waiting ≡ mid.waiting → new.published ≡ mid.published → new.all_published ≡ mid.all_published →
-    AdvancesBetween g s old new
-advances_prepared g s old mid new (packets, begins, gave) waiting published all prepares out still same whole = record {
-  packets = packets;
-  advances = (mid.replica, begins, prepares);
-  gave = subst (g.takes old.out packets) (sym out) gave;
-  waiting = still ∙ waiting;
-  published = same ∙ published;
-  all_published = whole ∙ all;
-}
+    × g.takes old.out packets mid.out × WaitsForAll old.all_published packets old.replica mid.replica →
+    mid.waiting ≡ old.waiting → mid.published ≡ old.published → mid.all_published ≡ old.all_published →
+    MayPrepare s mid.replica new.replica → new.out ≡ mid.out → new.waiting ≡ mid.waiting →
+    new.published ≡ mid.published → new.all_published ≡ mid.all_published → AdvancesBetween g s old new
+advances_prepared {O} {R} g s old mid new (packets, begins, gave, waits) waiting published all prepares out still same
+    whole =
+    record {
+      packets = packets;
+      advances = (mid.replica, begins, prepares);
+      waits = λ lags.
+          let w = waits lags in (w.0, subst (λ (r : R). MayPrepare s r new.replica) w.1 prepares);
+      gave = subst (g.takes old.out packets) (sym out) gave;
+      waiting = still ∙ waiting;
+      published = same ∙ published;
+      all_published = whole ∙ all;
+    }
 
 -- A turn, and what was done after it, is a run of one turn.
 pub turn_advanced : {O R : Type 0} (g : Ghosts O) (h : ReplicaGhosts R) (s : Saving R) (most : ℕ)

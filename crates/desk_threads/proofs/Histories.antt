@@ -10,7 +10,7 @@ use Rattle.desk_published.proofs.PrefixEquations.{front_goes_on, is_front, is_pr
 use Rattle.desk_replica.specs.Saving.{Saving, LogsGoOn, ForgetsReported, BeginsEpoch, HasSameLogs}
 use Rattle.desk_replica.specs.Saving.{MayForget, MayBegin, MayPrepare, Advances, StaysSaved}
 use Rattle.desk_replica.specs.Saving.{after_base, entries_or, to_publish}
-use Rattle.desk_threads.specs.Noted.{IsNoted, replica_history}
+use Rattle.desk_threads.specs.Noted.{IsNoted, PublishesOn, replica_history}
 
 pub goes_then : {R : Type 0} (s : Saving R) (old mid new : R) → LogsGoOn s old mid →
     LogsGoOn s mid new → LogsGoOn s old new
@@ -61,6 +61,44 @@ take_front (suc b) (x ∷ xs) ys [] many few p = absurd (omega (arith, few))
 take_front (suc b) (x ∷ xs) ys (y ∷ front) many few p =
     let r = take_front b xs ys front (omega (arith, many)) (omega (arith, few)) (p.0, cc p.1) in
     cc (p.1, r)
+
+-- as the first entries of a prefix are those of the list
+take_within : (b : ℕ) (front list : List Entry) → b ≤ length front → IsPrefix front list →
+    take b front ≡ take b list
+take_within zero front list few p = refl
+take_within (suc b) [] list few p = absurd (omega (arith, few))
+take_within (suc b) (x ∷ front) [] few p = absurd (omega (arith, ap length p.1))
+take_within (suc b) (x ∷ front) (y ∷ list) few p =
+    let r = take_within b front list (omega (arith, few)) (p.0, cc p.1) in
+    cc (p.1, r)
+
+-- where the logs of its past are published, they are the same first entries of what is published and of what is noted
+pub shown_history : {R : Type 0} (s : Saving R) (r : R) (shown noted : List Entry) → s.base r ≤ length shown →
+    EqualsPrefix shown noted → replica_history s r noted ≡ replica_history s r shown
+shown_history s r shown noted few held =
+    ap (λ (front : List Entry). front ++ after_base s r)
+    (sym (take_within (s.base r) shown noted few (is_prefix shown noted held)))
+
+-- so what is published then goes on
+pub publishes_on : {R : Type 0} (s : Saving R) (r : R) (noted shown now : List Entry) → s.base r ≤ length shown →
+    EqualsPrefix shown noted → IsNoted s r noted → IsPrefix now (replica_history s r shown) →
+    PublishesOn s r shown now
+publishes_on s r noted shown now few held of within = record {
+  reached = few;
+  stands = subst (s.stands r) (sym (take_within (s.base r) shown noted few (is_prefix shown noted held))) of.past_is;
+  shown = within;
+}
+
+-- and so it does after what it had committed went on
+pub publishes_then : {R : Type 0} (s : Saving R) (old mid : R) (noted shown now : List Entry) → LogsGoOn s old mid →
+    IsNoted s old noted → s.base old ≤ length shown → EqualsPrefix shown noted →
+    IsPrefix now (replica_history s mid shown) → PublishesOn s mid shown now
+publishes_then s old mid noted shown now on of few held within =
+    publishes_on s mid noted shown now (subst (λ b. b ≤ length shown) (sym on.base) few) held
+    (noted_on s old mid noted on of) within
+
+pub reached_on : (b : ℕ) (old now : List Entry) → b ≤ length old → IsPrefix old now → b ≤ length now
+reached_on b old now few p = omega (arith, few, ap length p.1, length-append old p.0)
 
 -- what is to be published begins what was committed after the past
 publish_first : (reported cut : List Entry) → IsPrefix (entries_or reported cut) (reported ++ cut)
@@ -367,6 +405,20 @@ pub entered_noted : {R : Type 0} (s : Saving R) (old new : R) (noted : List Entr
     IsNoted s new noted × (replica_history s old noted ≡ replica_history s new noted)
 entered_noted s old new noted (inl b) of p = begins_noted s old new noted b of p
 entered_noted s old new noted (inr same) of p = same_noted s old new noted same of
+
+-- Where all that it had committed is published, the logs of its past are, whether it began an epoch or not.
+pub entered_reached : {R : Type 0} (s : Saving R) (old new : R) (noted shown : List Entry) →
+    BeginsEpoch s old new ⊎ HasSameLogs s old new → IsNoted s old noted → s.base old ≤ length shown →
+    shown ≡ replica_history s old noted → s.base new ≤ length shown
+entered_reached s old new noted shown (inl b) of few all =
+    omega (
+      arith,
+      b.base,
+      ap length all,
+      length_followed (s.base old) noted (after_base s old) of.past_noted,
+      length-append (s.reported old) (s.cut old),
+    )
+entered_reached s old new noted shown (inr same) of few all = subst (λ n. n ≤ length shown) (sym same.base) few
 
 -- by the two values of a test
 pub by_test : (b : Bool) (P : Type 0) → (b ≡ true → P) → (b ≡ false → P) → P

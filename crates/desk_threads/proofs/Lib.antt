@@ -13,6 +13,7 @@ pub mod SavedTurns
 pub mod ReportedAnswers
 pub mod IdleSessions
 pub mod Items
+pub mod ItemPublishing
 pub mod SessionLoops
 pub mod ItemsInOrder
 pub mod ReplicaItems

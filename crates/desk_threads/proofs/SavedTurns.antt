@@ -144,11 +144,12 @@ pub node_turn_shown : {O S : Type 0} (out : OutGhosts O) (g : StoreGhosts S) (mo
     IsPrefix new.published (committed_entries new.replica.owned.node.saved)
     × MatchBool new.all_published (new.published ≡ committed_entries new.replica.owned.node.saved)
     (new.published ≢ committed_entries new.replica.owned.node.saved)
-node_turn_shown out g most turn old new took =
-    let cut = committed_entries new.replica.owned.node.saved in
-    let all : took.past ++ cut ≡ cut = ap (λ past. past ++ cut) took.stands in (
-      subst (λ (w : List Entry). IsPrefix new.published w) all took.shown,
-      subst (λ (w : List Entry). MatchBool new.all_published (new.published ≡ w) (new.published ≢ w)) all took.whole,
+node_turn_shown {O} {S} out g most turn old new took =
+    let cut : committed_entries took.stored.owned.node.saved ≡ committed_entries new.replica.owned.node.saved =
+    ap (λ (r : SavedNode S). committed_entries r.owned.node.saved)
+    (sym (node_forgets_nothing g took.stored new.replica took.forgets)) in (
+      subst (λ (w : List Entry). IsPrefix new.published w) cut took.publishes.shown,
+      subst (λ (w : List Entry). MatchBool new.all_published (new.published ≡ w) (new.published ≢ w)) cut took.whole,
     )
 
 -- What a run did with all that it took.

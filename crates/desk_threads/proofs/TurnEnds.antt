@@ -10,7 +10,8 @@ use Rattle.desk_replica.specs.declared.answer.Answer.{Answer}
 use Rattle.desk_replica.specs.declared.item_step.ItemStep.{ItemStep}
 use Rattle.desk_threads.specs.declared.handing.Out.{Ghosts}
 use Rattle.desk_replica.specs.declared.replica.Replica.{Ghosts as ReplicaGhosts}
-use Rattle.desk_replica.specs.Saving.{Saving, MayForget, after_base}
+use Rattle.desk_replica.specs.Saving.{Saving, MayForget}
+use Rattle.desk_threads.specs.Noted.{PublishesOn, replica_history}
 use Rattle.desk_threads.specs.Waiting.{SessionValue, HearsAll, Tells, after_stop}
 use Rattle.desk_threads.specs.EndingItems.{OnlyLastEnds}
 use Rattle.desk_threads.specs.Telling.{after_items, NotesItems, TellsOfStop, TellsRoundLate}
@@ -36,19 +37,19 @@ reported_by list xs ys noted new late e (heard, a, b) = (heard, subst (λ w. All
 -- a turn that was saved
 pub saved_turn : {O R : Type 0} (g : Ghosts O) (h : ReplicaGhosts R) (s : Saving R) (most : ℕ) (item : Item)
     (sent : List (SentItem Item)) (first last : List ItemStep) (old new : Stand O R) (made stored : R)
-    (noted : List SessionValue) (late : Option Item) (past : List Entry) → length sent < most →
+    (noted : List SessionValue) (late : Option Item) → length sent < most →
     OnlyLastEnds (item ∷ items_in sent) → first ≡ [] → MetMore h old.replica first (item ∷ items_in sent) made last →
     h.follows old.replica made → s.saves made stored → MayForget s stored new.replica →
     NotesItems (item ∷ items_in sent) old.waiting noted late →
     g.takes old.out (packets_of_steps last) new.out → IsPrefix old.published new.published →
-    s.stands new.replica past → IsPrefix new.published (past ++ after_base s new.replica) →
-    MatchBool new.all_published (new.published ≡ past ++ after_base s new.replica)
-    (new.published ≢ past ++ after_base s new.replica) →
+    PublishesOn s stored old.published new.published →
+    MatchBool new.all_published (new.published ≡ replica_history s stored old.published)
+    (new.published ≢ replica_history s stored old.published) →
     (heard : List SessionValue) × AllZip (HearsAll (answers_of_steps last)) noted heard
     × TellsRoundLate new.published late heard new.waiting →
     TakesTurn g h s most (item ∷ items_in sent) old new
-saved_turn g h s most item sent first last old new made stored noted late past few early none (p, b, e, i, does) follows
-    saved forgets notes gave grows stands shown whole reported =
+saved_turn g h s most item sent first last old new made stored noted late few early none (p, b, e, i, does) follows
+    saved forgets notes gave grows publishes whole reported =
     let size = some_few item (items_in sent) most (fewer _ _ most (items_few sent) few) in
     let heard = reported_by new.published (answers_of_steps last) b noted new.waiting late
     (i ∙ ap (λ w. answers_of_steps w ++ b) none) reported in
@@ -66,9 +67,7 @@ saved_turn g h s most item sent first last old new made stored noted late past f
       forgets = forgets;
       gave = subst (λ w. g.takes old.out w new.out) (e ∙ ap (λ w. packets_of_steps w ++ p) none) gave;
       grows = grows;
-      past = past;
-      stands = stands;
-      shown = shown;
+      publishes = publishes;
       whole = whole;
       reported = (noted, late, heard.0, notes, heard.1, heard.2);
     }

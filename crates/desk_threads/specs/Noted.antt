@@ -1,5 +1,6 @@
 -- What of a replica's logs the board's writer has noted.
 use Rattle.std.specs.Prelude.{◌≤◌, List, length, take}
+use mathlib.Core.List.{IsPrefix}
 use Rattle.desk_types.specs.declared.command.Entry.{Entry}
 use Rattle.desk_published.specs.Writer.{EqualsPrefix, followed_by}
 use Rattle.desk_replica.specs.Saving.{Saving, after_base, to_publish}
@@ -15,3 +16,10 @@ pub record IsNoted {R : Type 0} (s : Saving R) (r : R) (noted : List Entry) : Ty
   pub past_is : s.stands r (take (s.base r) noted)
   pub next : EqualsPrefix noted (followed_by (s.base r) noted (to_publish s r))
   pub begins : EqualsPrefix noted (replica_history s r noted)
+
+-- What is published goes on: the logs of the replica's past were published before, and what is published now are the
+-- first of these entries and of what it has committed after them.
+pub record PublishesOn {R : Type 0} (s : Saving R) (r : R) (old new : List Entry) : Type 0 where
+  pub reached : s.base r ≤ length old
+  pub stands : s.stands r (take (s.base r) old)
+  pub shown : IsPrefix new (replica_history s r old)

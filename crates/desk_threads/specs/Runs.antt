@@ -1,5 +1,5 @@
 -- What a keeper did with what it took.
-use Rattle.std.specs.Prelude.{◌≡◌, ◌≢◌, ◌<◌, ◌≤◌, ◌⊎◌, ℕ, Bool, true, List, [], ◌∷◌, ◌++◌, map, flat_map, length}
+use Rattle.std.specs.Prelude.{◌≡◌, ◌≢◌, ◌<◌, ◌≤◌, ◌⊎◌, ℕ, Bool, true, false, List, [], ◌∷◌, ◌++◌, map, flat_map, length}
 use Rattle.std.specs.Prelude.{MatchBool}
 use mathlib.Core.List.{IsPrefix}
 use Rattle.desk_types.specs.declared.command.Entry.{Entry}
@@ -14,7 +14,8 @@ use Rattle.desk_threads.specs.declared.handing.Out.{Ghosts}
 use Rattle.desk_replica.specs.declared.replica.Replica.{Ghosts as ReplicaGhosts}
 use Rattle.desk_threads.specs.Replicas.{MeetsItems}
 use Rattle.desk_threads.specs.SavedItems.{MeetsAndSaves, MeetsAndFails}
-use Rattle.desk_replica.specs.Saving.{Saving, MayForget, Advances, after_base}
+use Rattle.desk_threads.specs.Noted.{PublishesOn, replica_history}
+use Rattle.desk_replica.specs.Saving.{Saving, MayForget, MayPrepare, Advances}
 use Rattle.desk_threads.specs.Waiting.{SessionValue}
 use Rattle.desk_threads.specs.EndingItems.{OnlyLastEnds}
 use Rattle.desk_threads.specs.Telling.{TellsOfTurn, TellsOfStop}
@@ -64,9 +65,9 @@ stand replica waiting published all_published out = record {
 
 -- A turn leads from here to there. It has one item at least and so many at most, and none but the last ends it. Its
 -- items were done or refused, in order; what they made was saved, and then the replica may have forgotten the log that
--- was reported to it; what was published went on, within what the replica has committed then, after the logs of its
--- past, and the keeper says whether it is all of that; their packets went out, in order; and the sessions that wait
--- heard of the items and of what was answered.
+-- was reported to it; what was published went on, within what the replica had committed when it was saved, after the
+-- logs of its past, which were published before, and the keeper says whether it is all of that; their packets went out,
+-- in order; and the sessions that wait heard of the items and of what was answered.
 pub record TakesTurn {O R : Type 0} (g : Ghosts O) (h : ReplicaGhosts R) (s : Saving R) (most : ℕ) (turn : List Item)
     (old new : Stand O R) : Type 0 where
   pub some : 0 < length turn
@@ -82,17 +83,17 @@ pub record TakesTurn {O R : Type 0} (g : Ghosts O) (h : ReplicaGhosts R) (s : Sa
   pub forgets : MayForget s stored new.replica
   pub gave : g.takes old.out packets new.out
   pub grows : IsPrefix old.published new.published
-  pub past : List Entry
-  pub stands : s.stands new.replica past
-  pub shown : IsPrefix new.published (past ++ after_base s new.replica)
-  pub whole : MatchBool new.all_published (new.published ≡ past ++ after_base s new.replica)
-      (new.published ≢ past ++ after_base s new.replica)
+  pub publishes : PublishesOn s stored old.published new.published
+  pub whole : MatchBool new.all_published (new.published ≡ replica_history s stored old.published)
+      (new.published ≢ replica_history s stored old.published)
   pub reported : TellsOfTurn new.published turn answers old.waiting new.waiting
 
--- Between two turns the keeper advanced its replica, the packets of that went out, and nothing else changed.
+-- Between two turns the keeper advanced its replica, the packets of that went out, and nothing else changed. Where not
+-- all that the replica has committed is published, it begins no epoch.
 pub record AdvancesBetween {O R : Type 0} (g : Ghosts O) (s : Saving R) (old new : Stand O R) : Type 0 where
   pub packets : List (ℕ × EpochPacket)
   pub advances : Advances s old.replica packets new.replica
+  pub waits : old.all_published ≡ false → (packets ≡ []) × MayPrepare s old.replica new.replica
   pub gave : g.takes old.out packets new.out
   pub waiting : new.waiting ≡ old.waiting
   pub published : new.published ≡ old.published

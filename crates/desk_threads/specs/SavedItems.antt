@@ -4,6 +4,8 @@ use Rattle.desk_types.specs.declared.epoch_packet.EpochPacket.{EpochPacket}
 use Rattle.desk_mailbox.specs.declared.item.Item.{Item}
 use Rattle.desk_replica.specs.declared.answer.Answer.{Answer}
 use Rattle.desk_replica.specs.declared.replica.Replica.{Ghosts}
+use Rattle.desk_types.specs.declared.command.Entry.{Entry}
+use Rattle.desk_threads.specs.Noted.{PublishesOn}
 use Rattle.desk_threads.specs.Replicas.{MeetsItem, MeetsItems}
 use Rattle.desk_replica.specs.Saving.{Saving, MayForget, Advances}
 
@@ -22,6 +24,18 @@ DoesAndForgets {R} g s old item packets answers new =
 -- The item was refused and counted, and then the replica may have forgotten the log that was reported to it.
 abbrev pub RefusesAndForgets : {R : Type 0} → Ghosts R → Saving R → R → R → Type 0
 RefusesAndForgets {R} g s old new = (counted : R) × g.refuses old counted × MayForget s counted new
+
+-- The item was done, and what it made was saved; or it was refused and counted.
+abbrev pub StoresItem : {R : Type 0} → Ghosts R → Saving R → R → Item → R → Type 0
+StoresItem {R} g s old item new =
+    ((packets : List (ℕ × EpochPacket)) × (answers : List Answer) × DoesAndSaves g s old item packets answers new)
+    ⊎ g.refuses old new
+
+-- So it is with the item; from there what is published goes on, and then the replica may have forgotten the log that
+-- was reported to it.
+abbrev pub PublishesItem : {R : Type 0} → Ghosts R → Saving R → R → Item → List Entry → List Entry → R → Type 0
+PublishesItem {R} g s old item shown shown_now new =
+    (stored : R) × StoresItem g s old item stored × PublishesOn s stored shown shown_now × MayForget s stored new
 
 -- The item was done, and what it made was not saved: the state of before was the one that was saved last, and the save
 -- failed.

@@ -158,7 +158,8 @@ impl<B: BoardName, R: SavedReplica> Keeper<B, R> {
         ensures taker { result.0.taker ≡ self.taker }
         ensures begins { result.1 ≡ true → (packets : List _)
             × MayBegin R.SavedReplica.saving self.replica packets result.0.replica
-            × O.Out.takes out.old packets out.new }
+            × O.Out.takes out.old packets out.new
+            × (self.all_published ≡ false → (packets ≡ []) × (result.0.replica ≡ self.replica)) }
         ensures waiting { result.1 ≡ true → result.0.waiting ≡ self.waiting }
         ensures writer { result.0.writer ≡ self.writer }
         ensures all_published { result.0.all_published ≡ self.all_published }

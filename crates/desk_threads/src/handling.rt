@@ -9,7 +9,7 @@ ghost use Rattle.desk_published.specs.Writer.{published};
 ghost use Rattle.desk_types.specs.Refusal.{IsStoreRefusal};
 ghost use Rattle.desk_types.specs.Refusal.{HasStored};
 ghost use Rattle.desk_threads.specs.Filed.{goes_on_after};
-ghost use Rattle.desk_threads.specs.SavedItems.{DoesAndForgets, DoesAndFails, RefusesAndForgets};
+ghost use Rattle.desk_threads.specs.SavedItems.{DoesAndForgets, DoesAndFails, PublishesItem, RefusesAndForgets};
 ghost use Rattle.desk_replica.specs.Saving.{GoesOnAndForgets, StaysSaved};
 ghost use Rattle.desk_threads.specs.Noted.{replica_history};
 ghost use Rattle.desk_threads.specs.Telling.{TellsOfStop};
@@ -86,6 +86,9 @@ impl<B: BoardName, R: SavedReplica> Keeper<B, R> {
             (replica_history R.SavedReplica.saving result.0.replica result.0.writer.noted) }
         ensures grows { IsPrefix (published self.writer.inner)
             (published result.0.writer.inner) }
+        // What was published goes on, after the logs of its past, which were published before.
+        ensures publishes { HasStored result.1 → PublishesItem R.Replica R.SavedReplica.saving self.replica item
+            (published self.writer.inner) (published result.0.writer.inner) result.0.replica }
         ensures whole { IfOk result.1 (λ whole. MatchBool whole
             (published result.0.writer.inner
             ≡ replica_history R.SavedReplica.saving result.0.replica result.0.writer.noted)
@@ -215,6 +218,9 @@ impl<B: BoardName, R: SavedReplica> Keeper<B, R> {
             (replica_history R.SavedReplica.saving result.0.replica result.0.writer.noted) }
         ensures grows { IsPrefix (published self.writer.inner)
             (published result.0.writer.inner) }
+        // What was published goes on, after the logs of its past, which were published before.
+        ensures publishes { HasStored result.1 → PublishesItem R.Replica R.SavedReplica.saving self.replica item
+            (published self.writer.inner) (published result.0.writer.inner) result.0.replica }
         ensures whole { IfOk result.1 (λ whole. MatchBool whole
             (published result.0.writer.inner
             ≡ replica_history R.SavedReplica.saving result.0.replica result.0.writer.noted)

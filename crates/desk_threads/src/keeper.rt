@@ -37,6 +37,8 @@ where
     pub(crate) all_published: bool,
     pub(crate) alloc: Global,
     pub ghost past_noted: { R.SavedReplica.saving.base replica ≤ length writer.noted },
+    // The logs of its past were published.
+    pub ghost past_shown: { R.SavedReplica.saving.base replica ≤ length (published writer.inner) },
     pub ghost past_is: { R.SavedReplica.saving.stands replica
         (take (R.SavedReplica.saving.base replica) writer.noted) } by { R.SavedReplica.saving.stands_prop replica
             (take (R.SavedReplica.saving.base replica) writer.noted) },

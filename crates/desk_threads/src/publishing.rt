@@ -1,6 +1,6 @@
 //! How what a replica has committed is published.
 
-ghost use Rattle.std.specs.Prelude.{◌≡◌, ◌≢◌, true, false, MatchBool};
+ghost use Rattle.std.specs.Prelude.{◌≡◌, ◌≢◌, ◌≤◌, true, false, length, MatchBool};
 ghost use mathlib.Core.List.{IsPrefix};
 ghost use Rattle.desk_published.specs.Writer.{EqualsPrefix, published};
 ghost use Rattle.desk_replica.specs.Saving.{MayForget};
@@ -22,11 +22,16 @@ fn publish_reported<B: BoardName, R: SavedReplica, W: Wait>(
     requires shown { EqualsPrefix (published writer.inner)
         (replica_history R.SavedReplica.saving replica.old writer.noted) }
     requires held { EqualsPrefix (published writer.inner) writer.noted }
+    requires reached { R.SavedReplica.saving.base replica.old ≤ length (published writer.inner) }
     ensures noted { IsNoted R.SavedReplica.saving replica.new result.0.noted }
     ensures held { IsPrefix (published result.0.inner) result.0.noted }
+    ensures reached { R.SavedReplica.saving.base replica.new ≤ length (published result.0.inner) }
     ensures grows { IsPrefix (published writer.inner) (published result.0.inner) }
     ensures shown { IsPrefix (published result.0.inner)
         (replica_history R.SavedReplica.saving replica.new result.0.noted) }
+    // It is what was committed after past logs that were published before.
+    ensures history { replica_history R.SavedReplica.saving replica.new result.0.noted
+        ≡ replica_history R.SavedReplica.saving replica.old (published writer.inner) }
     ensures forgets { MatchBool result.1 (R.SavedReplica.saving.forgets replica.old replica.new)
         (replica.new ≡ replica.old) }
     ensures lags { result.1 ≡ false → published result.0.inner
@@ -59,11 +64,16 @@ pub(crate) fn publish_committed<B: BoardName, R: SavedReplica, W: Wait>(
     requires shown { EqualsPrefix (published writer.inner)
         (replica_history R.SavedReplica.saving replica.old writer.noted) }
     requires held { EqualsPrefix (published writer.inner) writer.noted }
+    requires reached { R.SavedReplica.saving.base replica.old ≤ length (published writer.inner) }
     ensures noted { IsNoted R.SavedReplica.saving replica.new result.0.noted }
     ensures held { IsPrefix (published result.0.inner) result.0.noted }
+    ensures reached { R.SavedReplica.saving.base replica.new ≤ length (published result.0.inner) }
     ensures grows { IsPrefix (published writer.inner) (published result.0.inner) }
     ensures shown { IsPrefix (published result.0.inner)
         (replica_history R.SavedReplica.saving replica.new result.0.noted) }
+    // It is what was committed after past logs that were published before.
+    ensures history { replica_history R.SavedReplica.saving replica.new result.0.noted
+        ≡ replica_history R.SavedReplica.saving replica.old (published writer.inner) }
     ensures forgets { MayForget R.SavedReplica.saving replica.old replica.new }
     ensures whole { wanted ≡ true → MatchBool result.1
         (published result.0.inner ≡ replica_history R.SavedReplica.saving replica.new result.0.noted)

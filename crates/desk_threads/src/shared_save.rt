@@ -1,8 +1,8 @@
 //! A turn of items: their steps in memory, one save, one publish, their packets, and what their sessions get, in
 //! this order.
 
-ghost use Rattle.std.specs.Prelude.{◌≡◌, ◌<◌, ◌++◌, ◌∷◌, List, Some, None, true, false, length, map};
-ghost use Rattle.std.specs.Prelude.{option_to_list, IfOk, IfErr, OnOk, OnErr};
+ghost use Rattle.std.specs.Prelude.{◌≡◌, ◌≢◌, ◌<◌, ◌≤◌, ◌++◌, ◌∷◌, List, Some, None, true, false, length, map};
+ghost use Rattle.std.specs.Prelude.{option_to_list, IfOk, IfErr, OnOk, OnErr, MatchBool};
 ghost use Rattle.std.specs.List.{AllZip};
 ghost use mathlib.Core.List.{IsPrefix};
 ghost use Rattle.desk_mailbox.specs.Ends.{taken_by, IsSameTaker};
@@ -16,7 +16,7 @@ ghost use Rattle.desk_threads.specs.Turns.{packets_of_steps, answers_of_steps, M
 ghost use Rattle.desk_threads.specs.Runs.{items_in, stand, EndsInStop, TakesTurn};
 ghost use Rattle.desk_threads.specs.SavedItems.{MeetsAndFails};
 ghost use Rattle.desk_replica.specs.Saving.{MayForget};
-ghost use Rattle.desk_threads.specs.Noted.{IsNoted, replica_history};
+ghost use Rattle.desk_threads.specs.Noted.{IsNoted, PublishesOn, replica_history};
 
 use crate::handing::Out;
 use crate::keeper::Keeper;
@@ -87,12 +87,18 @@ fn end_saved<B: BoardName, R: SavedReplica, W: Wait, O: Out>(
     requires shown { EqualsPrefix (published writer.inner)
         (replica_history R.SavedReplica.saving turn.replica writer.noted) }
     requires held { EqualsPrefix (published writer.inner) writer.noted }
+    requires reached { R.SavedReplica.saving.base turn.replica ≤ length (published writer.inner) }
     requires domain { (R.SavedReplica.saving.owner turn.replica).domain ≡ B.domain }
     ensures taker { result.taker ≡ turn.taker }
     ensures replica { MayForget R.SavedReplica.saving turn.replica result.replica }
     ensures stopped { result.stopped ≡ false }
     ensures gave { O.Out.takes out.old (packets_of_steps turn.steps.items) out.new }
     ensures grows { IsPrefix (published writer.inner) (published result.writer.inner) }
+    ensures publishes { PublishesOn R.SavedReplica.saving turn.replica (published writer.inner)
+        (published result.writer.inner) }
+    ensures whole { MatchBool result.all_published
+        (published result.writer.inner ≡ replica_history R.SavedReplica.saving turn.replica (published writer.inner))
+        (published result.writer.inner ≢ replica_history R.SavedReplica.saving turn.replica (published writer.inner)) }
     ensures reported { (heard : List _) × AllZip (HearsAll (answers_of_steps turn.steps.items)) turn.waiting heard
         × TellsRoundLate (published result.writer.inner) turn.late heard result.waiting }
 {
@@ -133,6 +139,7 @@ fn end_unsaved<B: BoardName, R: SavedReplica, W: Wait>(
     requires shown { EqualsPrefix (published writer.inner)
         (replica_history R.SavedReplica.saving turn.replica writer.noted) }
     requires held { EqualsPrefix (published writer.inner) writer.noted }
+    requires reached { R.SavedReplica.saving.base turn.replica ≤ length (published writer.inner) }
     requires domain { (R.SavedReplica.saving.owner turn.replica).domain ≡ B.domain }
     ensures taker { result.taker ≡ turn.taker }
     ensures replica { result.replica ≡ turn.replica }

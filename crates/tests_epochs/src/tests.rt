@@ -4,5 +4,7 @@ mod beginnings;
 mod epochs;
 mod headers;
 mod keeping;
+mod memory;
+mod opening;
 mod replicas;
 mod stores;

@@ -4,7 +4,7 @@ ghost use Rattle.desk_epoch_replica.specs.DeferringSaves.{IsSavedDeferring};
 
 use super::epochs::Comes;
 use super::keeping::{answered, item};
-use super::stores::{MemoryStores, stores};
+use super::stores::{GivenStores, stores};
 use desk_epoch_replica::{DeferringReplica, EpochReplica};
 use desk_epoch_stores::OpenedEpoch;
 use desk_log::{MemoryStore, StateStore};
@@ -16,7 +16,7 @@ use std::alloc::Global;
 /// A replica whose last state is saved.
 #[derive(Drop)]
 struct Running {
-    replica: DeferringReplica<MemoryStores>,
+    replica: DeferringReplica<GivenStores>,
     pub ghost saved: { IsSavedDeferring ⟦<MemoryStore as StateStore>⟧ replica },
 }
 

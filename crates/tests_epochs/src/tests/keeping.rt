@@ -2,7 +2,7 @@
 //! one.
 
 use super::epochs::{Comes, event};
-use super::stores::{MemoryStores, stores};
+use super::stores::{GivenStores, stores};
 use desk_epoch_node::EpochEvent;
 use desk_epoch_replica::{DeferringReplica, EpochReplica};
 use desk_epoch_stores::OpenedEpoch;
@@ -12,7 +12,7 @@ use desk_types::{Domain, Message, Owner, Purpose};
 use std::alloc::Global;
 
 /// The replica at its start, where the store of the first epoch may be read as one that is over.
-fn start(alloc: Global) -> Option<DeferringReplica<MemoryStores>> {
+fn start(alloc: Global) -> Option<DeferringReplica<GivenStores>> {
     let mut none = stores(alloc, &[])?;
     let Ok(opened) = OpenedEpoch::current(alloc, &mut none, 2) else {
         return None;
@@ -76,7 +76,7 @@ pub(super) fn answered(step: &ItemStep) -> u64 {
 /// How many packets go out, how many entries they tell, which place is answered, and how many requests are held then.
 type Done = (usize, u64, u64, usize);
 
-fn done(alloc: Global, replica: &mut DeferringReplica<MemoryStores>, comes: Comes) -> Option<Done> {
+fn done(alloc: Global, replica: &mut DeferringReplica<GivenStores>, comes: Comes) -> Option<Done> {
     let step = replica.do_item(alloc, item(alloc, comes)?).ok()?;
     let held = replica.deferred();
     Some((step.packets.len(), told(&step), answered(&step), held))

@@ -67,6 +67,13 @@ impl EpochStores for FaultyStores {
             fails: epoch == self.faulty,
         })
     }
+
+    fn close(&mut self, epoch: u64, store: FaultyStore) -> bool
+        ensures alloc { self.new.alloc ≡ self.old.alloc }
+    {
+        let _ = (epoch, store);
+        true
+    }
 }
 
 /// A replica whose last state is saved.

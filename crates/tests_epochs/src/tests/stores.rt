@@ -11,22 +11,40 @@ use std::alloc::Global;
 
 /// What the stores of the first epochs hold. That of a later one holds the state of a node that has done nothing.
 #[derive(Drop)]
-pub(super) struct MemoryStores {
+pub(super) struct GivenStores {
     alloc: Global,
     states: Vec<Saved>,
+    /// The epoch whose store is missing, where one is.
+    pub(super) missing: Option<u64>,
+    /// How many stores are open.
+    pub(super) open: u64,
 }
 
-impl EpochStores for MemoryStores {
+impl EpochStores for GivenStores {
     type Store = MemoryStore;
 
     ghost may_hold = { λ _ _ _. Unit {0} };
 
     fn open(&mut self, epoch: u64) -> Result<MemoryStore, Refusal> {
+        if self.missing == Some(epoch) {
+            return Err(Refusal::WrongFile);
+        }
         let mut store = MemoryStore::new(self.alloc);
         if let Some(state) = self.states.get(epoch as usize) {
-            store.save_state(state, 0)?;
+            if store.save_state(state, 0).is_err() {
+                return Err(Refusal::StoreFault);
+            }
         }
+        self.open = self.open.saturating_add(1);
         Ok(store)
+    }
+
+    fn close(&mut self, epoch: u64, store: MemoryStore) -> bool
+        ensures alloc { self.new.alloc ≡ self.old.alloc }
+    {
+        let _ = (epoch, store);
+        self.open = self.open.saturating_sub(1);
+        true
     }
 }
 
@@ -49,16 +67,21 @@ fn state(alloc: Global, last: u64, commit: u64) -> Option<Saved> {
 }
 
 /// Stores with such states.
-pub(super) fn stores(alloc: Global, rows: &[(u64, u64)]) -> Option<MemoryStores> {
+pub(super) fn stores(alloc: Global, rows: &[(u64, u64)]) -> Option<GivenStores> {
     let mut states = Vec::new(alloc);
     for row in rows {
         states.push(state(alloc, row.0, row.1)?).ok()?;
     }
-    Some(MemoryStores { alloc, states })
+    Some(GivenStores {
+        alloc,
+        states,
+        missing: None,
+        open: 0,
+    })
 }
 
 /// Opens epochs as long as one is over.
-fn open(alloc: Global, rows: &[(u64, u64)]) -> Option<OpenedEpoch<MemoryStores>> {
+fn open(alloc: Global, rows: &[(u64, u64)]) -> Option<OpenedEpoch<GivenStores>> {
     let mut stores = stores(alloc, rows)?;
     OpenedEpoch::current(alloc, &mut stores, 2).ok()
 }
@@ -107,6 +130,25 @@ fn a_node_starts_after_epochs_that_are_over(rt: HostRuntime) {
     assert!(rt; first_other_start(alloc) == None);
 }
 
+/// How many stores are open where a node has started.
+fn open_after_start(alloc: Global, rows: &[(u64, u64)]) -> Option<u64> {
+    let mut stores = stores(alloc, rows)?;
+    let opened = OpenedEpoch::current(alloc, &mut stores, 2).ok()?;
+    drop(opened);
+    Some(stores.open)
+}
+
+#[test]
+fn a_start_closes_the_stores_of_epochs_that_are_over(rt: HostRuntime) {
+    for row in STARTS {
+        assert!(rt;
+            open_after_start(rt.alloc(), row.0) == Some(1),
+            "{}",
+            row.0.len()
+        );
+    }
+}
+
 /// What is asked of a node and its stores.
 #[derive(Clone, Copy)]
 enum Asked {
@@ -118,7 +160,7 @@ enum Asked {
 }
 
 /// The epoch of the node then, and whether it was begun now.
-fn begun(node: &mut EpochNode, stores: &mut NodeStores<MemoryStores>) -> Option<(u64, bool)> {
+fn begun(node: &mut EpochNode, stores: &mut NodeStores<GivenStores>) -> Option<(u64, bool)> {
     let Ok(()) = stores.save(node.node().saved(), 0) else {
         return None;
     };
@@ -129,7 +171,7 @@ fn begun(node: &mut EpochNode, stores: &mut NodeStores<MemoryStores>) -> Option<
 fn done(
     alloc: Global,
     node: &mut EpochNode,
-    stores: &mut NodeStores<MemoryStores>,
+    stores: &mut NodeStores<GivenStores>,
     asked: Asked,
 ) -> Option<(u64, bool)> {
     match asked {
@@ -164,16 +206,23 @@ const ENDS: &[(Asked, (u64, bool))] = &[
     (Asked::Begin, (2, true)),
 ];
 
+/// The stores of a node that has done nothing: that of the first epoch is open.
+fn first_stores(alloc: Global) -> NodeStores<GivenStores> {
+    let opens = GivenStores {
+        alloc,
+        states: Vec::new(alloc),
+        missing: None,
+        open: 1,
+    };
+    NodeStores::new(opens, MemoryStore::new(alloc))
+}
+
 /// The first row, counted from 1, that does not come true; 0 where there is no node.
 fn first_other_end(alloc: Global) -> Option<usize> {
     let Some(mut node) = first_node(alloc, 0, 0) else {
         return Some(0);
     };
-    let none = MemoryStores {
-        alloc,
-        states: Vec::new(alloc),
-    };
-    let mut stores = NodeStores::new(none, MemoryStore::new(alloc));
+    let mut stores = first_stores(alloc);
     for (index, row) in ENDS.iter().enumerate() {
         if done(alloc, &mut node, &mut stores, row.0) != Some(row.1) {
             return Some(index + 1);
@@ -186,6 +235,23 @@ fn first_other_end(alloc: Global) -> Option<usize> {
 fn an_epoch_begins_once_its_store_is_open(rt: HostRuntime) {
     let alloc = rt.alloc();
     assert!(rt; first_other_end(alloc) == None);
+}
+
+/// How many stores are open after the rows.
+fn open_after_ends(alloc: Global) -> Option<u64> {
+    let mut node = first_node(alloc, 0, 0)?;
+    let mut stores = first_stores(alloc);
+    for row in ENDS {
+        done(alloc, &mut node, &mut stores, row.0)?;
+    }
+    let (opens, current, next) = stores.into_parts();
+    drop((current, next));
+    Some(opens.open)
+}
+
+#[test]
+fn the_store_of_an_epoch_that_ends_is_closed(rt: HostRuntime) {
+    assert!(rt; open_after_ends(rt.alloc()) == Some(1));
 }
 
 /// What the store of an epoch holds whose log was told: how many entries, and how many of them are committed.

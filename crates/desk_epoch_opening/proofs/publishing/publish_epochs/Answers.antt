@@ -36,8 +36,8 @@ loop-epoch-preserved g c =
       next.1 ∙ i.1,
       λ e s h. i.2 e s (c.next.ensures.same e s h),
       subst (λ (list : List Entry). StandFor list o.past) (sym noted) (c.in-Ok-next.ensures.past before i.3),
-      logs_on held c.args.most old.most old.past.length old.epoch o.epoch old.saved before now i.4 i.5 over i.1 next.0
-          noted,
+      logs_on held c.args.most old.most old.past.length old.epoch o.epoch old.saved before now i.4 i.5 over
+          i.3.length_is i.1 next.0 noted,
       i.2 o.epoch o.saved c.in-Ok-next.ensures.held,
     )
 

@@ -1,9 +1,9 @@
-use Rattle.std.proofs.Common.{◌≡◌, ◌≢◌, ◌∙◌, [], List, MatchBool, append-nil, inl, inr, refl, subst}
+use Rattle.std.proofs.Common.{◌≡◌, ◌≢◌, ◌∙◌, [], List, MatchBool, append-nil, inl, inr, refl, subst, sym}
 use mathlib.Core.List.{IsPrefix}
 use Rattle.desk_types.specs.declared.command.Entry.{Entry}
 use Rattle.desk_published.specs.Writer.{published}
 use Rattle.desk_published.proofs.PrefixEquations.{is_prefix, prefix_trans}
-use Rattle.desk_threads.proofs.Histories.{before_publish, after_publish, cut_next}
+use Rattle.desk_threads.proofs.Histories.{before_publish, after_publish, cut_next, reached_on, shown_history}
 use Rattle.desk_threads.proofs.PublishedPrefixes.{where_true, where_false}
 use Rattle.desk_threads.proofs.publishing.publish_committed.Goals as goal
 
@@ -104,3 +104,28 @@ returns-clause-whole g c = λ _.
 
 pub returns-then-not-wanted-clause-held : goal.returns-then-not-wanted-clause-held
 returns-then-not-wanted-clause-held g c = is_prefix (published c.args.writer.inner) c.args.writer.noted c.requires.held
+
+pub returns-then-not-wanted-clause-history : goal.returns-then-not-wanted-clause-history
+returns-then-not-wanted-clause-history g c =
+    shown_history g.R.SavedReplica.saving c.args.replica.now (published c.args.writer.inner) c.args.writer.noted
+    c.requires.reached c.requires.held
+
+pub returns-clause-reached : goal.returns-clause-reached
+returns-clause-reached g c =
+    reached_on (g.R.SavedReplica.saving.base c.publish_reported-writer.new.replica)
+    (published c.publish_reported-writer.result.0.inner) (published c.publish_after.result.0.inner)
+    c.publish_reported-writer.ensures.reached c.publish_after.ensures.grows
+
+pub returns-clause-history : goal.returns-clause-history
+returns-clause-history g c =
+    let s = g.R.SavedReplica.saving in
+    let r = c.publish_reported-writer.new.replica in
+    let none = (g.met.R.SavedReplica.forgotten_on c.args.replica.now r
+    (where_true c.publish_reported-writer.result.1 _ _ c.publish_reported-writer.ensures.forgets
+    c.if-not-forgot.false)).reported in
+    let noted = c.publish_reported-writer.result.0.noted in
+    let n = cut_next s r c.committed.result.now noted c.past_len.result none c.committed.ensures c.past_len.ensures in
+    let p = after_publish s r c.past_len.result c.committed.result.now noted c.publish_after.result.0.noted
+    c.past_len.ensures n.0 c.publish_reported-writer.ensures.noted c.publish_after.ensures.past
+    c.publish_after.ensures.noted in
+    sym p.1 ∙ c.publish_reported-writer.ensures.history

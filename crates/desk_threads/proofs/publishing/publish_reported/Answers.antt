@@ -1,10 +1,10 @@
-use Rattle.std.proofs.Common.{◌≢◌, [], ◌∙◌, ap, append-nil, length, refl, subst, sym, List}
+use Rattle.std.proofs.Common.{◌≢◌, [], ◌∙◌, ap, append-nil, arith, length, refl, subst, sym, List}
 use mathlib.Core.List.{IsPrefix}
 use Rattle.desk_types.specs.declared.command.Entry.{Entry}
 use Rattle.desk_published.specs.Writer.{EqualsPrefix, published}
-use Rattle.desk_published.proofs.PrefixEquations.{is_prefix}
+use Rattle.desk_published.proofs.PrefixEquations.{is_prefix, length_followed}
 use Rattle.desk_threads.proofs.Histories.{before_publish, after_publish, reported_next, forgets_nothing}
-use Rattle.desk_threads.proofs.Histories.{forgets_published, reported_lags, reported_within}
+use Rattle.desk_threads.proofs.Histories.{forgets_published, reached_on, reported_lags, reported_within, shown_history}
 use Rattle.desk_threads.proofs.PublishedPrefixes.{where_true, where_false}
 use Rattle.desk_threads.proofs.publishing.publish_reported.Goals as goal
 
@@ -121,3 +121,73 @@ returns-clause-shown g c =
 
 pub returns-then-count-eq0-clause-held : goal.returns-then-count-eq0-clause-held
 returns-then-count-eq0-clause-held g c = is_prefix (published c.args.writer.inner) c.args.writer.noted c.requires.held
+
+pub returns-then-count-eq0-clause-history : goal.returns-then-count-eq0-clause-history
+returns-then-count-eq0-clause-history g c =
+    sym (forgets_nothing g.R.SavedReplica.saving c.args.replica.now _ c.reported-count.result.now c.args.writer.noted
+    c.reported-count.ensures c.if-count-eq0.true
+    (g.met.R.SavedReplica.forgotten_on c.args.replica.now _ c.forget_reported.ensures) c.requires.noted).1
+    ∙ shown_history g.R.SavedReplica.saving c.args.replica.now (published c.args.writer.inner) c.args.writer.noted
+    c.requires.reached c.requires.held
+
+pub returns-then-count-eq0-clause-reached : goal.returns-then-count-eq0-clause-reached
+returns-then-count-eq0-clause-reached g c =
+    omega (
+      arith,
+      c.requires.reached,
+      (g.met.R.SavedReplica.forgotten_on c.args.replica.now _ c.forget_reported.ensures).base,
+      ap length c.reported-count.ensures,
+      c.if-count-eq0.true,
+    )
+
+pub returns-then-not-whole-clause-history : goal.returns-then-not-whole-clause-history
+returns-then-not-whole-clause-history g c =
+    let list = c.reported.result.now in
+    let some : length list ≢ 0 = λ none. c.if-count-eq0.false
+    (ap length (c.reported-count.ensures ∙ sym c.reported.ensures) ∙ none) in
+    let s = g.R.SavedReplica.saving in
+    let noted = c.args.writer.noted in
+    let now = c.publish_after-writer.result.0.noted in
+    let p = after_publish s c.args.replica.now c.past_len.result list noted now c.past_len.ensures
+    (reported_next s c.args.replica.now list c.reported.ensures some) c.requires.noted
+    c.publish_after-writer.ensures.past c.publish_after-writer.ensures.noted in
+    sym p.1
+    ∙ shown_history s c.args.replica.now (published c.args.writer.inner) noted c.requires.reached c.requires.held
+
+pub returns-then-not-whole-clause-reached : goal.returns-then-not-whole-clause-reached
+returns-then-not-whole-clause-reached g c =
+    reached_on (g.R.SavedReplica.saving.base c.args.replica.now) (published c.args.writer.inner)
+    (published c.publish_after-writer.result.0.inner) c.requires.reached c.publish_after-writer.ensures.grows
+
+pub returns-clause-history : goal.returns-clause-history
+returns-clause-history g c =
+    let list = c.reported.result.now in
+    let some : length list ≢ 0 = λ none. c.if-count-eq0.false
+    (ap length (c.reported-count.ensures ∙ sym c.reported.ensures) ∙ none) in
+    let s = g.R.SavedReplica.saving in
+    let noted = c.args.writer.noted in
+    let now = c.publish_after-writer.result.0.noted in
+    let p = after_publish s c.args.replica.now c.past_len.result list noted now c.past_len.ensures
+    (reported_next s c.args.replica.now list c.reported.ensures some) c.requires.noted
+    c.publish_after-writer.ensures.past c.publish_after-writer.ensures.noted in
+    let f = forgets_published s c.args.replica.now _ c.past_len.result list noted now
+    (published c.publish_after-writer.result.0.inner) c.past_len.ensures c.reported.ensures
+    (g.met.R.SavedReplica.forgotten_on c.args.replica.now _ c.forget_reported-2.ensures) c.requires.noted p.0 p.1
+    (where_true c.publish_after-writer.result.1 _ _ (c.publish_after-writer.ensures.whole refl) c.if-not-whole.false)
+    c.publish_after-writer.ensures.held in
+    sym (p.1 ∙ f.1)
+    ∙ shown_history s c.args.replica.now (published c.args.writer.inner) noted c.requires.reached c.requires.held
+
+pub returns-clause-reached : goal.returns-clause-reached
+returns-clause-reached g c =
+    let list = c.reported.result.now in
+    let noted = c.args.writer.noted in
+    omega (
+      arith,
+      ap length (where_true c.publish_after-writer.result.1 _ _ (c.publish_after-writer.ensures.whole refl)
+          c.if-not-whole.false),
+      length_followed c.past_len.result noted list (omega (arith, c.past_len.ensures, c.requires.noted.past_noted)),
+      c.past_len.ensures,
+      ap length c.reported.ensures,
+      (g.met.R.SavedReplica.forgotten_on c.args.replica.now _ c.forget_reported-2.ensures).base,
+    )

@@ -7,8 +7,8 @@ use Rattle.desk_epoch_node.specs.Replacements.{ends_epoch}
 use Rattle.desk_epoch_node.proofs.Cuts.{cut_least, cut_length_most}
 use Rattle.desk_epoch_stores.proofs.opened_epoch.OpenedEpoch.next.Goals as goal
 
-pub followed_by-requires : goal.followed_by-requires
-followed_by-requires g c =
+pub followed_by-followed-requires : goal.followed_by-followed-requires
+followed_by-followed-requires g c =
     let self = c.args.self in
     omega (
       arith,

@@ -8,6 +8,7 @@ use Rattle.desk_replica.specs.Saving.{BeginsEpoch, HasSameLogs}
 use Rattle.desk_threads.specs.Noted.{replica_history}
 use Rattle.desk_threads.proofs.StoredAnswers.{no_less}
 use Rattle.desk_threads.proofs.Histories.{AdvanceLaws, begin_logs, begin_stays, by_test, entered_noted, entered_owner}
+use Rattle.desk_threads.proofs.Histories.{entered_reached}
 use Rattle.desk_threads.proofs.keeper.Keeper.begin.Goals as goal
 
 pub invariant_of-keeper : goal.invariant_of-keeper
@@ -31,6 +32,9 @@ invariant_of-keeper g c =
     (subst (λ (w : List Entry). IsPrefix w k.writer.noted) all (is_prefix shown k.writer.noted k.held)) in
     record {
       past_noted = n.0.past_noted;
+      past_shown = entered_reached s k.replica new k.writer.noted shown logs
+          (record { past_noted = k.past_noted; past_is = k.past_is; next = k.next; begins = k.noted }) k.past_shown
+          all;
       past_is = n.0.past_is;
       next = n.0.next;
       noted = n.0.begins;

@@ -1,4 +1,4 @@
-use Rattle.std.proofs.Common.{◌≢◌, ◌∙◌, List, ap, not, subst}
+use Rattle.std.proofs.Common.{◌≢◌, ◌≤◌, ◌∙◌, List, ap, length, not, subst, sym}
 use Rattle.desk_types.specs.declared.command.Entry.{Entry}
 use Rattle.desk_types.specs.declared.owner.Owner.{Owner}
 use Rattle.desk_published.specs.Writer.{EqualsPrefix, published}
@@ -26,6 +26,7 @@ invariant_of-keeper g c =
     (record { past_noted = k.past_noted; past_is = k.past_is; next = k.next; begins = k.noted }) in
     record {
       past_noted = n.0.past_noted;
+      past_shown = subst (λ b. b ≤ length shown) (sym logs.base) k.past_shown;
       past_is = n.0.past_is;
       next = n.0.next;
       noted = n.0.begins;

@@ -1,5 +1,7 @@
-use Rattle.std.proofs.Common.{not, false, ℕ, List, ◌≡◌, ◌⊎◌, ◌∙◌, ap, refl}
+use Rattle.std.proofs.Common.{not, false, ℕ, List, ◌≡◌, ◌≤◌, ◌⊎◌, ◌∙◌, ap, length, refl, subst, sym}
+use mathlib.Core.List.{IsPrefix}
 use Rattle.desk_types.specs.Refusal.{IsStoreRefusal, HasStored}
+use Rattle.desk_types.specs.declared.command.Entry.{Entry}
 use Rattle.desk_types.specs.declared.owner.Owner.{Owner}
 use Rattle.desk_types.specs.declared.epoch_packet.EpochPacket.{EpochPacket}
 use Rattle.desk_types.specs.declared.refusal.Refusal.TheVariants as refusals
@@ -10,6 +12,8 @@ use Rattle.desk_replica.specs.EpochPackets.{packets_of_step}
 use Rattle.desk_threads.specs.ItemAnswers.{waiting_on}
 use Rattle.desk_threads.specs.SavedItems.{DoesAndForgets, DoesAndFails, RefusesAndForgets}
 use Rattle.desk_threads.proofs.Histories.{AdvanceLaws, noted_on, front_on, forget_owner, forget_saved, forget_stays}
+use Rattle.desk_threads.proofs.Histories.{publishes_then}
+use Rattle.desk_threads.proofs.ItemPublishing.{done_stores, refused_stores}
 use Rattle.desk_threads.proofs.PublishedPrefixes.{where_true, where_false}
 use Rattle.desk_threads.proofs.StoredAnswers.{stored_ok, stored_err, stored_after, no_less}
 use Rattle.desk_threads.proofs.ReportedAnswers.{reported_done, reported_waiting, reported_stopped, once_stopped}
@@ -39,6 +43,11 @@ publish_committed-writer-requires-clause-shown g c =
     front_on g.R.SavedReplica.saving c.args.self.replica c.act_and_save-outcome.new.replica c.args.self.writer.noted
     (published c.args.self.writer.inner) c.act_and_save-outcome.ensures.same c.args.self.shown
 
+pub publish_committed-writer-requires-clause-reached : goal.publish_committed-writer-requires-clause-reached
+publish_committed-writer-requires-clause-reached g c =
+    subst (λ b. b ≤ length (published c.args.self.writer.inner)) (sym c.act_and_save-outcome.ensures.same.base)
+    c.args.self.past_shown
+
 pub invariant_of-keeper : goal.invariant_of-keeper
 invariant_of-keeper g c =
     let s = g.R.SavedReplica.saving in
@@ -55,6 +64,7 @@ invariant_of-keeper g c =
     stored_after _ _ c.goes_on_after-goes_on.ensures in
     record {
       past_noted = p.noted.past_noted;
+      past_shown = p.reached;
       past_is = p.noted.past_is;
       next = p.noted.next;
       noted = p.noted.begins;
@@ -218,3 +228,32 @@ returns-clause-made g c = elim c.match-outcome.branch [
       w.in-Err.is w.answer-is c.goes_on_after-goes_on.ensures
       (λ stops. (c.publish_committed-writer.ensures.unwanted stops).2) c.act_and_save-outcome.ensures.made
 ]
+
+pub returns-clause-publishes : goal.returns-clause-publishes
+returns-clause-publishes g c =
+    let s = g.R.SavedReplica.saving in
+    let k = c.args.self in
+    let item = c.args.item in
+    let stored = c.act_and_save-outcome.new.replica in
+    let p = c.publish_committed-writer.ensures in
+    let now = published c.publish_committed-writer.result.0.inner in
+    let on = publishes_then s k.replica stored k.writer.noted (published k.writer.inner) now
+    c.act_and_save-outcome.ensures.same
+    (record { past_noted = k.past_noted; past_is = k.past_is; next = k.next; begins = k.noted }) k.past_shown k.held
+    (subst (λ (w : List Entry). IsPrefix now w) p.history p.shown) in
+    elim c.match-outcome.branch [
+      | in-Ok w ↦ λ _. (
+        stored,
+        done_stores g.R.Replica s k.replica stored item c.act_and_save-outcome.result _ w.in-Ok.is
+            c.act_and_save-outcome.ensures.did,
+        on,
+        p.forgets,
+      )
+      | in-Err w ↦ λ h. (
+        stored,
+        refused_stores g.R.Replica s k.replica stored item c.act_and_save-outcome.result c.match-outcome.answer _
+            w.in-Err.is w.answer-is h c.act_and_save-outcome.ensures.refused c.act_and_save-outcome.ensures.fault,
+        on,
+        p.forgets,
+      )
+    ]

@@ -1,6 +1,5 @@
-use Rattle.std.proofs.Common.{◌∙◌, ◌∷◌, ◌++◌, option_to_list, ap, sym, subst, refl, take}
+use Rattle.std.proofs.Common.{◌≤◌, ◌∙◌, ◌∷◌, ◌++◌, option_to_list, ap, length, sym, subst, refl}
 use Rattle.desk_types.specs.declared.owner.Owner.{Owner}
-use Rattle.desk_published.proofs.PrefixEquations.{is_prefix}
 use Rattle.desk_mailbox.specs.Ends.{taken_by}
 use Rattle.desk_published.specs.Writer.{published}
 use Rattle.desk_threads.specs.Runs.{items_in, stand}
@@ -8,7 +7,6 @@ use Rattle.desk_threads.specs.SavedItems.{MeetsAndFails}
 use Rattle.desk_threads.specs.Telling.{NotesItems}
 use Rattle.desk_threads.specs.Turns.{MetMore}
 use Rattle.desk_threads.proofs.Histories.{noted_on, front_on}
-use Rattle.desk_threads.proofs.PublishedPrefixes.{where_either}
 use Rattle.desk_threads.proofs.SavedItems.{turn_on, turn_fails, saves_if}
 use Rattle.desk_threads.proofs.StoredAnswers.{no_less}
 use Rattle.desk_threads.proofs.TurnEnds.{saved_turn, unsaved_turn}
@@ -32,6 +30,26 @@ end_saved-keeper-requires-clause-noted g c =
       next = c.args.self.next;
       begins = c.args.self.noted;
     })
+
+pub end_saved-keeper-requires-clause-reached : goal.end_saved-keeper-requires-clause-reached
+end_saved-keeper-requires-clause-reached g c =
+    subst (λ b. b ≤ length (published c.args.self.writer.inner))
+    (sym (turn_on g.R.Replica g.R.SavedReplica.saving g.met.R.SavedReplica.followed_on g.met.R.SavedReplica.saved_on
+    g.met.R.SavedReplica.failed_on c.args.self.replica c.new-turn.result.replica
+    c.act_all_and_save-turn.result.0.replica c.new-turn.result.steps.items
+    c.act_all_and_save-turn.result.0.steps.items (c.args.item ∷ items_in c.act_all_and_save-turn.ensures.did.0)
+    c.act_all_and_save-turn.result.1 c.new-turn.ensures.replica c.act_all_and_save-turn.ensures.did.3).base)
+    c.args.self.past_shown
+
+pub end_unsaved-keeper-requires-clause-reached : goal.end_unsaved-keeper-requires-clause-reached
+end_unsaved-keeper-requires-clause-reached g c =
+    subst (λ b. b ≤ length (published c.args.self.writer.inner))
+    (sym (turn_on g.R.Replica g.R.SavedReplica.saving g.met.R.SavedReplica.followed_on g.met.R.SavedReplica.saved_on
+    g.met.R.SavedReplica.failed_on c.args.self.replica c.new-turn.result.replica
+    c.act_all_and_save-turn.result.0.replica c.new-turn.result.steps.items
+    c.act_all_and_save-turn.result.0.steps.items (c.args.item ∷ items_in c.act_all_and_save-turn.ensures.did.0)
+    c.act_all_and_save-turn.result.1 c.new-turn.ensures.replica c.act_all_and_save-turn.ensures.did.3).base)
+    c.args.self.past_shown
 
 pub end_saved-keeper-requires-clause-domain : goal.end_saved-keeper-requires-clause-domain
 end_saved-keeper-requires-clause-domain g c =
@@ -109,17 +127,15 @@ returns-in-Ok-clause-did g c =
           (stand c.args.self.replica c.args.self.waiting (published c.args.self.writer.inner)
           c.args.self.all_published c.args.out.now)
           (stand keeper.replica keeper.waiting (published keeper.writer.inner)
-          keeper.all_published c.end_saved-keeper.new.out) d.3.0 turn.replica turn.waiting turn.late
-          (take (s.base keeper.replica) keeper.writer.noted) d.1 d.5 c.new-turn.ensures.steps
+          keeper.all_published c.end_saved-keeper.new.out) d.3.0 turn.replica turn.waiting turn.late d.1 d.5
+          c.new-turn.ensures.steps
           (subst (λ r. MetMore g.R.Replica r first.steps.items items d.3.0 turn.steps.items)
           c.new-turn.ensures.replica d.3.1)
           (subst (λ r. g.R.Replica.follows r d.3.0) c.new-turn.ensures.replica d.3.2)
           saves c.end_saved-keeper.ensures.replica
           (subst (λ w. NotesItems items w turn.waiting turn.late) c.new-turn.ensures.waiting d.4)
-          c.end_saved-keeper.ensures.gave c.end_saved-keeper.ensures.grows keeper.past_is
-          (is_prefix _ _ keeper.shown)
-          (where_either keeper.all_published _ _ (keeper.whole c.end_saved-keeper.ensures.stopped)
-          (keeper.partial c.end_saved-keeper.ensures.stopped)) c.end_saved-keeper.ensures.reported,
+          c.end_saved-keeper.ensures.gave c.end_saved-keeper.ensures.grows c.end_saved-keeper.ensures.publishes
+          c.end_saved-keeper.ensures.whole c.end_saved-keeper.ensures.reported,
     )
 
 pub returns-in-Ok-clause-stopped : goal.returns-in-Ok-clause-stopped
