@@ -100,31 +100,35 @@ serve_help="Runs one node of a group on the network of this host, with its state
 Usage: desk serve [OPTIONS] --node <node> --nodes <nodes> --domain <domain> --port <port> --file <file>
 
 Options:
-      --node <node>              The node's number, from 0
-      --nodes <nodes>            How many nodes the group has, 3 or 5
-      --domain <domain>          The desk's domain, under which it names incidents
-      --port <port>              The group's first port, from 1024 to 65000
-      --file <file>              The SQLite file that keeps the node's state, made where it is not there
-      --log                      Tells each change of the node in a line of JSON on standard error
-      --hosts <hosts>            The hosts of the nodes, in their order, with commas between; else 127.0.0.1
-      --key <key>                The file of the key of nodes, and of clients where they have none of their own
-      --client-key <client-key>  The file of the key of clients, where they have one of their own
-  -h, --help                     Print help
+      --node <node>                  The node's number, from 0
+      --nodes <nodes>                How many nodes the group has, 3 or 5
+      --domain <domain>              The desk's domain, under which it names incidents
+      --port <port>                  The group's first port, from 1024 to 65000
+      --file <file>                  The SQLite file that keeps the node's state, made where it is not there
+      --log                          Tells each change of the node in a line of JSON on standard error
+      --next                         Makes FILE.1 after a full FILE that has none, as a program of one file leaves it
+      --epoch-places <epoch-places>  For trials: how many places an epoch has at all nodes, 1 to 65536; else 65536
+      --hosts <hosts>                The hosts of the nodes, in their order, with commas between; else 127.0.0.1
+      --key <key>                    The file of the key of nodes, and of clients where they have none of their own
+      --client-key <client-key>      The file of the key of clients, where they have one of their own
+  -h, --help                         Print help
 
 Node I takes the other nodes at port PORT + I, and sessions at port PORT + 10 + I, on 127.0.0.1 or the
-I-th of --hosts, which wants a key where it is no loopback. It ends with its standard input.
+I-th of --hosts, which wants a key where it is no loopback. It ends with its standard input. Where the log of FILE
+is full, it goes on in FILE.1, then in FILE.2 and so on.
 
 Example: desk serve --node 0 --nodes 3 --domain desk.example --port 4000 --file node-0.db"
 
 cluster_help="Runs a whole group of nodes on the network of this host, with their states in memory
 
-Usage: desk cluster --nodes <nodes> --domain <domain> --port <port>
+Usage: desk cluster [OPTIONS] --nodes <nodes> --domain <domain> --port <port>
 
 Options:
-      --nodes <nodes>    How many nodes the group has, 3 or 5
-      --domain <domain>  The desk's domain, under which it names incidents
-      --port <port>      The group's first port, from 1024 to 65000
-  -h, --help             Print help
+      --nodes <nodes>                How many nodes the group has, 3 or 5
+      --domain <domain>              The desk's domain, under which it names incidents
+      --port <port>                  The group's first port, from 1024 to 65000
+      --epoch-places <epoch-places>  For trials: how many places an epoch has at all nodes, 1 to 65536; else 65536
+  -h, --help                         Print help
 
 Node I, from 0, takes the other nodes at port PORT + I, and sessions at port PORT + 10 + I, all on 127.0.0.1.
 All end with the standard input, and their states with them.
@@ -301,7 +305,9 @@ For more information, try '--help'." 0 three desk.example
 # the words of `serve`, likewise
 serving() {
     local told=$1 node=$2 nodes=$3 domain=$4 port=$5
-    refused "$told" serve --node "$node" --nodes "$nodes" --domain "$domain" --port "$port" --file "$folder/unmade.db"
+    shift 5
+    refused "$told" serve --node "$node" --nodes "$nodes" --domain "$domain" --port "$port" \
+        --file "$folder/unmade.db" "$@"
     if [ -e "$folder/unmade.db" ]; then
         echo "refused-words: a file was made by: serve --node $node --nodes $nodes --domain $domain" >&2
         failed=$((failed + 1))
@@ -403,6 +409,56 @@ bad_ports 65000 cluster --nodes 3 --domain desk.example
 bad_ports 65014 send
 bad_ports 65000 status --nodes 3
 bad_ports 65000 page --nodes 3 --listen 8080
+
+# places of an epoch, which are given once, and to `serve` and `cluster` alone
+bad_epoch_places() {
+    local told="error: invalid value '$1' for '--epoch-places <epoch-places>': $2
+
+For more information, try '--help'."
+    serving "$told" 0 3 desk.example 4000 "--epoch-places=$1"
+    refused "$told" cluster --nodes 3 --domain desk.example --port 4000 "--epoch-places=$1"
+}
+for places in 0 65537 -1; do bad_epoch_places "$places" "$places is not in 1..=65536"; done
+for places in many 1.5 ' 1' 0x10; do bad_epoch_places "$places" 'invalid digit found in string'; done
+bad_epoch_places '' 'cannot parse integer from empty string'
+bad_epoch_places 9223372036854775808 'number too large to fit in target type'
+no_epoch_places="error: a value is required for '--epoch-places <epoch-places>' but none was supplied
+
+For more information, try '--help'."
+refused "$no_epoch_places" cluster --nodes 3 --domain desk.example --port 4000 --epoch-places
+serving "$no_epoch_places" 0 3 desk.example 4000 --epoch-places
+serving "$no_epoch_places" 0 3 desk.example 4000 --epoch-places --next
+misused "${cluster/cluster/cluster [OPTIONS]}" \
+    "error: the argument '--epoch-places <epoch-places>' cannot be used multiple times" \
+    cluster --nodes 3 --domain desk.example --port 4000 --epoch-places 8 --epoch-places=8
+
+# a second file, which is asked for once, and of `serve` alone
+serving "error: the argument '--epoch-places <epoch-places>' cannot be used multiple times
+
+Usage: ${serve/serve/serve [OPTIONS]}
+
+For more information, try '--help'." 0 3 desk.example 4000 --epoch-places 8 --next --epoch-places 9
+serving "error: the argument '--next' cannot be used multiple times
+
+Usage: ${serve/serve/serve [OPTIONS]}
+
+For more information, try '--help'." 0 3 desk.example 4000 --next --log --next
+serving "error: unexpected value '1' for '--next' found; no more were expected
+
+Usage: $serve --next
+
+For more information, try '--help'." 0 3 desk.example 4000 --next=1
+serving "error: unexpected argument '1' found
+
+Usage: ${serve/serve/serve [OPTIONS]}
+
+For more information, try '--help'." 0 3 desk.example 4000 --next 1
+misused "$cluster" "error: unexpected argument '--next' found" \
+    cluster --nodes 3 --domain desk.example --port 4000 --next
+for word in --next --epoch-places; do
+    misused "$answer" "error: unexpected argument '$word' found" \
+        answer --node 0 --nodes 3 --domain desk.example "--file=$folder/unmade.db" "$word"
+done
 
 # a group that is followed
 for nodes in 0 1 2 4 6 255; do refused 'desk: nodes must be 3 or 5' send --port 4000 --nodes "$nodes"; done

@@ -1,31 +1,30 @@
 //! The program of a dispatch desk: `desk replay --domain D` answers the documents of its standard input,
 //! `desk world --nodes N --domain D` runs a group of nodes through the events there, and
 //! `desk answer --node I --nodes N --domain D --file F` answers the packets there as one node, whose state a file
-//! keeps. On the network of its host `desk serve` runs one node over its file, `desk cluster` all nodes of a group in
+//! keeps. On the network of its host `desk serve` runs one node over its files, `desk cluster` all nodes of a group in
 //! memory, `desk send` sends documents to a node, `desk status` tells how the nodes of a group are, and `desk page`
-//! serves the live page of a group to browsers. `desk log --file F` prints what a node's file has committed.
+//! serves the live page of a group to browsers. `desk log --file F` prints what a node's files have committed.
 #![tactic(auto)]
 
-ghost use Rattle.std.specs.Prelude.{◌≡◌, ◌<◌, IfOk, IfErr};
+ghost use Rattle.std.specs.Prelude.{◌≡◌, ◌≤◌, ◌<◌, IfOk, IfErr, is_some};
 ghost use Rattle.desk_types.specs.Group.{IsGroup};
+ghost use Rattle.desk_options.specs.Host.{FitsEpoch};
 ghost use Rattle.desk_output.specs.declared.telling.TheConstants.{FAILED};
 
 use desk_admission::{GroupAddress, Hosts};
 use desk_connections::{NodeKeys, NodePorts, NodeSetup};
-use desk_database::open_database;
-use desk_events::{Event, EventLog, EventThread, start_log};
-use desk_file::{
-    EndedFile, NodeFile, answer_file, close_file, closed_status, log_file, open_node,
-    read_given_key, unopened_status,
-};
-use desk_network::{NodeEnd, serve_node};
+use desk_epoch_files::{EndedFiles, EpochFiles, HostDatabases, NamedDatabases};
+use desk_epoch_opening::RefusedOpening;
+use desk_events::{Event, EventThread, start_log};
+use desk_file::{answer_file, log_file, read_given_key};
+use desk_key::Key;
+use desk_network::{NodeEnd, NodeEpochs, serve_node};
 use desk_options::{HostRun, SendOptions, ServeOptions, StatusOptions};
 use desk_output::refusal_status;
 use desk_page_host::serve_page;
 use desk_program::run_given;
 use desk_sockets::{bind_node, run_group, send_input, show_status};
-use desk_types::{Owner, Refusal, peer_port, session_port};
-use sqlite::{Alter, Connection, File, FileStore};
+use desk_types::{Owner, Refusal, WantOfMemory, peer_port, session_port};
 use std::io::Input;
 use std::net::{Net, TcpListener, TcpStream};
 use std::process::ExitCode;
@@ -34,7 +33,7 @@ use std::rt::Clock;
 use std::sync::Wait;
 use std::thread::Threads;
 
-/// A node whose ports are bound, and whose file is open.
+/// A node whose ports are bound.
 struct BoundNode {
     owner: Owner,
     /// How the other nodes are reached.
@@ -42,19 +41,39 @@ struct BoundNode {
     ports: NodePorts,
     /// Where it tells its events.
     events: EventThread,
-    /// The name of its file.
-    name: String,
-    connection: Connection<FileStore<File>>,
+    epochs: NodeEpochs,
+    /// The name of its first file.
+    file: String,
+    /// Whether a first file that is full gets a second one, where it has none.
+    next: bool,
 }
 
-/// The keys of a node's ports: that of the nodes', where a file is named for it, and that of sessions.
-fn node_keys(host: &HostRuntime, options: &ServeOptions) -> Result<NodeKeys, u8>
-    ensures { IfErr result (λ status. status ≡ FAILED) }
+/// The same key once more, where there is one.
+fn copied_key(key: &Option<Key>) -> Option<Key>
+    ensures { result ≡ key.now }
 {
-    Ok(NodeKeys {
-        peers: read_given_key(host, &options.key)?,
-        sessions: read_given_key(host, &options.client_key)?,
-    })
+    match key {
+        Some(key) => Some(key.copy()),
+        None => None,
+    }
+}
+
+/// The keys of a node's ports: that of the nodes', where a file is named for it, and that of sessions. A file that is
+/// named for both is read once.
+fn node_keys(host: &HostRuntime, options: &ServeOptions) -> Result<NodeKeys, u8>
+    // Where a file is named for a port, that port has a key.
+    ensures given { IfOk result (λ keys. (is_some keys.peers ≡ is_some options.now.key)
+        × (is_some keys.sessions ≡ is_some options.now.client_key)) }
+    ensures fault { IfErr result (λ status. status ≡ FAILED) }
+{
+    let peers = read_given_key(host, &options.key)?;
+    // A pipe gives its bytes but once.
+    let sessions = if options.client_key == options.key {
+        copied_key(&peers)
+    } else {
+        read_given_key(host, &options.client_key)?
+    };
+    Ok(NodeKeys { peers, sessions })
 }
 
 /// Starts the log of a node where it is to have one, and tells its ports there; or tells the standard error that it is
@@ -81,15 +100,17 @@ fn node_log<R: Threads + Wait + Clock + Drop + Copy + Send + Sync + 'static>(
     }
 }
 
-/// Reads the keys of a node, binds its ports, and opens its file, or tells the standard error what is refused, and
-/// gives the exit status. No port is bound where a key is refused, and no file is made where a port is.
+/// Reads the keys of a node, and binds its ports, or tells the standard error what is refused, and gives the exit
+/// status. No port is bound where a key is refused.
 fn bound_node<R: Threads + Wait + Clock + Drop + Copy + Send + Sync + 'static>(
     host: &HostRuntime,
     rt: &R,
     options: ServeOptions,
 ) -> Result<BoundNode, u8>
+    requires places { FitsEpoch options.epoch_places }
     ensures owner { IfOk result (λ node. node.owner ≡ options.owner) }
     ensures port { IfOk result (λ node. node.address.first ≡ options.port) }
+    ensures places { IfOk result (λ node. node.epochs.places ≡ options.epoch_places) }
     ensures err { IfErr result (λ status. status ≡ FAILED) }
 {
     let keys = match node_keys(host, &options) {
@@ -102,6 +123,8 @@ fn bound_node<R: Threads + Wait + Clock + Drop + Copy + Send + Sync + 'static>(
         file,
         hosts,
         log,
+        next,
+        epoch_places: places,
         ..
     } = options;
     let hosts = Hosts::new(hosts);
@@ -115,30 +138,47 @@ fn bound_node<R: Threads + Wait + Clock + Drop + Copy + Send + Sync + 'static>(
         key: keys.peers.as_ref().map(|key| key.copy()),
     };
     let ports = ports.with_keys(&owner, port, keys);
-    let connection = match open_database(host, file.as_str()) {
-        Ok(connection) => connection,
-        Err(error) => return Err(unopened_status(&mut host.stderr(), file.as_str(), &error)),
-    };
     match node_log(host, rt, &owner, port, log) {
         Ok(events) => Ok(BoundNode {
             owner,
             address,
             ports,
             events,
-            name: file,
-            connection,
+            epochs: NodeEpochs { places, token: 0 },
+            file,
+            next,
         }),
-        Err(status) => {
-            let _ = close_file(Some(connection));
-            Err(status)
-        }
+        Err(status) => Err(status),
     }
 }
 
-/// Serves as a node over the database of its file until the standard input ends. It is written for any store of pages:
-/// a proof about that of files goes over all parts of it, and so `main` alone names it.
-fn serve_opened<
-    S: Alter + Drop + Send + 'static,
+/// Tells why a node was not started, its events first, and gives the exit status.
+fn unstarted_status<D: NamedDatabases + Drop, R: Wait + Clock>(
+    host: &HostRuntime,
+    rt: &R,
+    events: EventThread,
+    refused: RefusedOpening<EpochFiles<D>>,
+) -> u8
+    ensures { result ≡ FAILED }
+{
+    let RefusedOpening { refusal, stores } = refused;
+    let outcome = Err(refusal);
+    events.end(rt, &outcome);
+    let Err(refusal) = &outcome else {
+        unreachable!();
+    };
+    match &stores {
+        Some(files) => files.refusal_status(&mut host.stderr(), refusal),
+        None => refusal_status(&mut host.stderr(), refusal),
+    }
+}
+
+/// Serves as a node over its files, which these databases are in, until the standard input ends; tells the standard
+/// error what ended that, where it was a fault, and gives the exit status. No file is made before its ports are bound.
+/// It is written for any databases: a proof about files goes over all parts of their store, and so `main` alone names
+/// those.
+fn serve_bound<
+    D: NamedDatabases + Drop + Send + 'static,
     R: Net<Listener = TcpListener, Stream = TcpStream>
         + Threads
         + Wait
@@ -150,30 +190,36 @@ fn serve_opened<
         + Send
         + Sync
         + 'static,
->(
-    host: &HostRuntime,
-    rt: &R,
-    owner: Owner,
-    address: GroupAddress,
-    ports: NodePorts,
-    log: &EventLog,
-    connection: Connection<S>,
-) -> EndedFile<S>
+>(host: &HostRuntime, rt: &R, node: BoundNode, databases: D) -> u8
 where
+    D::Pages: Send + 'static,
     R::Reader: Send,
-    requires group { IsGroup owner.n }
-    requires id { owner.id < owner.n }
+    requires group { IsGroup node.owner.n }
+    requires id { node.owner.id < node.owner.n }
+    ensures status { result ≤ FAILED }
 {
-    let Ok(log) = log.share() else {
-        return EndedFile::over(host.alloc(), connection, Err(Refusal::WantOfMemory));
+    let BoundNode {
+        owner,
+        address,
+        ports,
+        events,
+        epochs,
+        file,
+        next,
+    } = node;
+    let (Ok(of_files), Ok(log)) = (owner.copy(), events.log().share()) else {
+        return unstarted_status::<D, R>(host, rt, events, RefusedOpening::from(WantOfMemory));
     };
-    let store = match open_node(host.alloc(), connection, &owner) {
-        Ok(store) => store,
-        Err(ended) => return ended,
-    };
+    let files = EpochFiles::new(host.alloc(), databases, file, of_files, epochs.places, next);
     let setup = NodeSetup::new(owner, address, ports, log);
-    let NodeEnd { store, outcome } = serve_node(rt, host.alloc(), &mut host.stdout(), setup, store);
-    EndedFile::of_node(host.alloc(), store, outcome)
+    match serve_node(rt, host.alloc(), &mut host.stdout(), setup, epochs, files) {
+        Ok(NodeEnd { stores, outcome }) => {
+            let ended = EndedFiles::of_node(stores, outcome);
+            events.end(rt, &ended.end.outcome);
+            ended.status(&mut host.stderr())
+        }
+        Err(refused) => unstarted_status(host, rt, events, refused),
+    }
 }
 
 /// Sends the standard input to nodes, after a handshake where a key is named.
@@ -205,34 +251,7 @@ fn main(rt: HostRuntime) -> ExitCode {
             Err(status) => status,
         },
         Err(HostRun::Serve(options)) => match bound_node(&rt, &rt, options) {
-            Ok(
-                BoundNode {
-                    owner,
-                    address,
-                    ports,
-                    events,
-                    name,
-                    connection,
-                },
-            ) => {
-                let file = NodeFile::new(name.as_str(), &owner);
-                let EndedFile { connection, end } = serve_opened(
-                    &rt,
-                    &rt,
-                    owner,
-                    address,
-                    ports,
-                    events.log(),
-                    connection,
-                );
-                events.end(&rt, &end.outcome);
-                closed_status(
-                    &mut rt.stderr(),
-                    file,
-                    &end,
-                    close_file(connection).is_whole,
-                )
-            }
+            Ok(node) => serve_bound(&rt, &rt, node, HostDatabases { rt }),
             Err(status) => status,
         },
     };

@@ -14,7 +14,7 @@ use Rattle.desk_file.specs.Unopened.{IsUnopened}
 use Rattle.desk_epoch_files.specs.declared.cause.Cause.{Cause}
 use Rattle.desk_epoch_files.specs.declared.open_error.OpenError.{OpenError}
 use Rattle.desk_epoch_files.specs.Causes.{BlamesFile, unopened_refusal}
-use Rattle.desk_epoch_files.specs.EpochTable.{ShowsEpoch}
+use Rattle.desk_file.specs.EpochTable.{ShowsEpoch}
 use Rattle.desk_epoch_files.specs.Opening.{IsOthersFile, MakesNext, MayBeOthers}
 
 -- a file is marked after it was opened, or was before

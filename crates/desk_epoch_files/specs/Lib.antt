@@ -1,4 +1,3 @@
-pub mod EpochTable
 pub mod Causes
 pub mod Opening
 pub mod Reports

@@ -9,7 +9,7 @@ use Rattle.desk_log.specs.SavedValue.{SavedValue, initial_saved}
 use Rattle.desk_saved.specs.Opening.{HasOpened, HasRefused}
 use Rattle.desk_saved.specs.Store.{StoreValue}
 use Rattle.desk_file.specs.Names.{name_in_epoch}
-use Rattle.desk_epoch_files.specs.EpochTable.{IsOfEpoch, ShowsEpoch, ShowsOther}
+use Rattle.desk_file.specs.EpochTable.{IsOfEpoch, ShowsEpoch, ShowsOther}
 
 module _ {S : Type 0} (g : Ghosts S) (owner : Owner) where
   -- A database was opened as a node's file of an epoch: by its mark it is that epoch's, and then the state of the node

@@ -1,24 +1,27 @@
 //! The files of a node's epochs, as they are opened one after the other.
 
-ghost use Rattle.std.specs.Prelude.{◌≡◌, ◌<◌, ◌+◌, List, ℕ, IsTrue, false, true, nat_le, IfOk, IfErr, IfSome, IsOk};
-ghost use Rattle.std.specs.Prelude.{OnOk, Some, None, string_bytes};
+ghost use Rattle.std.specs.Prelude.{◌≡◌, ◌<◌, ◌≤◌, ◌+◌, List, ℕ, IsTrue, IsFalse, false, true, nat_le};
+ghost use Rattle.std.specs.Prelude.{IfOk, IfErr, IfSome, IsOk, MatchOption, OnOk, Some, None, string_bytes};
+ghost use Rattle.std.specs.Io.KnownBytes.{Keeps};
 ghost use Rattle.sqlite.specs.Held.{Held};
 ghost use Rattle.desk_types.specs.declared.limits.TheConstants.{LAST_PLACE};
+ghost use Rattle.desk_types.specs.declared.refusal.Refusal.TheVariants as refusals;
 ghost use Rattle.desk_output.specs.Telling.{TellsFirst};
-ghost use Rattle.desk_output.specs.declared.telling.TheConstants.{FAILED};
+ghost use Rattle.desk_output.specs.declared.telling.TheConstants.{DONE, FAILED};
 ghost use Rattle.desk_saved.specs.Opening.{IsOpeningRefusal};
 ghost use Rattle.desk_epoch_files.specs.Causes.{BlamesFile, cause_refusal};
-ghost use Rattle.desk_epoch_files.specs.Reports.{reported_refusal};
+ghost use Rattle.desk_epoch_files.specs.Reports.{ended_refusal, reported_refusal};
 ghost use Rattle.desk_epoch_files.specs.Opening.{MayBeOthers, MayBeReady, MayHold, OpensEpoch};
 
-use crate::cause::Cause;
-use crate::epoch_table::is_of_epoch;
+use crate::cause::{Cause, table_cause};
 use crate::named_databases::NamedDatabases;
 use crate::next_file::make_file;
 use crate::open_error::OpenError;
 use desk_epoch_stores::EpochStores;
-use desk_file::{EndedFile, name_in_epoch, open_node};
-use desk_output::refusal_status;
+use desk_file::{
+    EndedFile, FileEnd, NodeFile, closed_status, is_of_epoch, name_in_epoch, open_node,
+};
+use desk_output::{DONE, refusal_status};
 use desk_saved::SavedState;
 use desk_types::limits::LAST_PLACE;
 use desk_types::{Owner, Refusal};
@@ -41,7 +44,7 @@ fn open_state<S: Alter>(
     match is_of_epoch(&mut connection, epoch) {
         Ok(true) => {}
         Ok(false) => return Err((Some(connection), Cause::OtherEpoch)),
-        Err(cause) => return Err((Some(connection), cause)),
+        Err(refusal) => return Err((Some(connection), table_cause(&refusal))),
     }
     match open_node(alloc, connection, owner) {
         Ok(store) => Ok(store),
@@ -82,6 +85,24 @@ fn open_file<D: NamedDatabases>(
             let _ = databases.close(name.as_str(), &mut connection);
             Err(cause)
         }
+    }
+}
+
+/// Tells the standard error how the work over a file ended, for whose name there is no memory, where that was not well,
+/// and answers the exit status.
+fn unnamed_status<E: Write>(errors: &mut E, outcome: &Result<(), Refusal>, is_whole: bool) -> u8
+    ensures status { result ≤ FAILED }
+    ensures done { result ≡ DONE → IsTrue is_whole × IsOk outcome.now }
+    ensures failed { IfErr outcome.now (λ _. result ≡ FAILED) }
+    ensures printed { IfErr outcome.now (TellsFirst (E.contents errors.old) (E.contents errors.new)) }
+    ensures unclosed { OnOk outcome.now (IsFalse is_whole →
+        TellsFirst (E.contents errors.old) (E.contents errors.new) refusals.StoreFault) }
+    ensures unprinted { result ≡ DONE → Keeps (E.contents errors.old) (E.contents errors.new) }
+{
+    match outcome {
+        Err(refusal) => refusal_status(errors, refusal),
+        Ok(()) if is_whole => DONE,
+        Ok(()) => refusal_status(errors, &Refusal::StoreFault),
     }
 }
 
@@ -277,6 +298,79 @@ impl<D: NamedDatabases> EpochFiles<D> {
         }
     }
 
+    /// Closes the file of an epoch after the work over it, which ended so: how that ended, with what in the file it is
+    /// due to, and whether all that was saved stands in the file.
+    pub(crate) fn end_epoch(
+        &mut self,
+        epoch: u64,
+        store: SavedState<D::Pages>,
+        outcome: Result<(), Refusal>,
+    ) -> (FileEnd, bool)
+        ensures outcome { result.0.outcome ≡ outcome }
+        ensures same { (at : List ℕ) → (c : Held D.Pages) → D.may_open self.new.databases at c
+            → D.may_open self.old.databases at c }
+        ensures files { self.new ≡ record self.old { databases = self.new.databases } }
+    {
+        let EndedFile {
+            mut connection,
+            end,
+        } = EndedFile::of_node(self.alloc, Some(store), outcome);
+        match name_in_epoch(self.alloc, self.file.as_str(), epoch) {
+            Ok(name) => {
+                let is_whole = self.databases.close(name.as_str(), &mut connection);
+                (end, is_whole)
+            }
+            Err(_) => {
+                drop(connection);
+                (end, false)
+            }
+        }
+    }
+
+    /// Why the file of a later epoch was not opened, where the node of an epoch ended by that: nothing else fails then
+    /// but its store.
+    fn error_of_end(&self, epoch: u64, outcome: &Result<(), Refusal>) -> Option<&OpenError>
+        ensures well { OnOk outcome.now (result ≡ None) }
+        ensures error { IfErr outcome.now (λ r. MatchOption result (ended_refusal self.now.error epoch r ≡ r)
+            (λ error. ended_refusal self.now.error epoch r ≡ cause_refusal error.now.cause)) }
+    {
+        match (outcome, &self.error) {
+            (Err(Refusal::StoreFault), Some(error)) if error.is_after(epoch) => Some(error),
+            _ => None,
+        }
+    }
+
+    /// Prints to the standard error how the work over the file of an epoch ended, where that was not well, and answers
+    /// the exit status. A node that ended as the file of a later epoch was not opened ends by what refused that file.
+    pub(crate) fn end_status<E: Write>(
+        &self,
+        errors: &mut E,
+        epoch: u64,
+        end: &FileEnd,
+        is_whole: bool,
+    ) -> u8
+        ensures status { result ≤ FAILED }
+        ensures done { result ≡ DONE → IsTrue is_whole × IsOk end.now.outcome }
+        ensures failed { IfErr end.now.outcome (λ _. result ≡ FAILED) }
+        ensures printed { IfErr end.now.outcome (λ r. TellsFirst (E.contents errors.old) (E.contents errors.new)
+            (ended_refusal self.now.error epoch r)) }
+        ensures unclosed { OnOk end.now.outcome (IsFalse is_whole →
+            TellsFirst (E.contents errors.old) (E.contents errors.new) refusals.StoreFault) }
+        ensures unprinted { result ≡ DONE → Keeps (E.contents errors.old) (E.contents errors.new) }
+    {
+        let file = self.file.as_str();
+        if let Some(error) = self.error_of_end(epoch, &end.outcome) {
+            return error.status(self.alloc, errors, file, &self.owner);
+        }
+        match name_in_epoch(self.alloc, file, epoch) {
+            Ok(name) => {
+                let file = NodeFile::new(name.as_str(), &self.owner);
+                closed_status(errors, file, end, is_whole)
+            }
+            Err(_) => unnamed_status(errors, &end.outcome, is_whole),
+        }
+    }
+
     /// Opens a node's file of an epoch, counted from 0, and makes that of the next one, unless the epoch has ended. The
     /// first file is made where it is missing. Err is `WantOfMemory` where memory is refused, and `StoreFault` where a
     /// file can't be opened, read or written. It is `WrongFile` where a file is missing, where it is another epoch's or
@@ -326,5 +420,9 @@ impl<D: NamedDatabases> EpochStores for EpochFiles<D> {
 
     fn open(&mut self, epoch: u64) -> Result<SavedState<D::Pages>, Refusal> {
         self.open_epoch(epoch)
+    }
+
+    fn close(&mut self, epoch: u64, store: SavedState<D::Pages>) -> bool {
+        self.close_epoch(epoch, store)
     }
 }

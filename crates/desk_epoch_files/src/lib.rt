@@ -5,6 +5,7 @@
 #![tactic(auto)]
 
 mod cause;
+mod ended_files;
 mod epoch_files;
 mod epoch_table;
 mod host_databases;
@@ -12,6 +13,7 @@ mod named_databases;
 mod next_file;
 mod open_error;
 
+pub use ended_files::EndedFiles;
 pub use epoch_files::EpochFiles;
 pub use host_databases::HostDatabases;
 pub use named_databases::NamedDatabases;

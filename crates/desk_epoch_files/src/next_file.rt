@@ -4,7 +4,7 @@ ghost use Rattle.std.specs.Prelude.{◌≡◌, ◌↔◌, List, ℕ, IsTrue, fal
 ghost use Rattle.sqlite.specs.State.{HasCleanDisk};
 ghost use Rattle.sqlite.specs.Held.{Held, state};
 ghost use Rattle.desk_log.specs.SavedValue.{initial_saved};
-ghost use Rattle.desk_epoch_files.specs.EpochTable.{ShowsEpoch};
+ghost use Rattle.desk_file.specs.EpochTable.{ShowsEpoch};
 ghost use Rattle.desk_epoch_files.specs.Causes.{BlamesFile};
 ghost use Rattle.desk_epoch_files.specs.Opening.{IsOthersFile, MakesNext, MayBeOthers, MayBeReady};
 

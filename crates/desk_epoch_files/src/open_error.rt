@@ -5,6 +5,7 @@ ghost use Rattle.desk_output.specs.Telling.{TellsFirst};
 ghost use Rattle.desk_output.specs.declared.telling.TheConstants.{FAILED};
 ghost use Rattle.desk_saved.specs.Opening.{IsOpeningRefusal};
 ghost use Rattle.desk_epoch_files.specs.Causes.{unopened_refusal, cause_refusal};
+ghost use Rattle.desk_epoch_files.specs.Reports.{is_after};
 
 use crate::cause::{Cause, cause_refusal, unopened_refusal};
 use desk_file::{FileEnd, NodeFile, closed_status, name_in_epoch, unopened_status};
@@ -48,6 +49,13 @@ impl OpenError {
         ensures kind { IsOpeningRefusal result }
     {
         cause_refusal(&self.cause)
+    }
+
+    /// Whether it is of a later epoch than this one, and other than want of memory.
+    pub(crate) fn is_after(&self, epoch: u64) -> bool
+        ensures { result ≡ is_after self.now epoch }
+    {
+        epoch < self.epoch && !self.refusal().is_want_of_memory()
     }
 
     /// Tells the standard error why the file of a node is not opened, and which, and answers the exit status.

@@ -1,4 +1,5 @@
 pub mod Closing
+pub mod EpochTable
 pub mod Faults
 pub mod Keys
 pub mod Names

@@ -9,7 +9,8 @@ ghost use Rattle.desk_file.specs.Closing.{EndsAnswers};
 ghost use Rattle.desk_file.specs.Faults.{unopened_fault};
 
 use crate::ended::{EndedFile, close_file};
-use crate::faults::{NodeFile, closed_status, unopened_status};
+use crate::epoch_table::is_of_epoch;
+use crate::faults::{NodeFile, closed_status, later_epoch_status, unopened_status};
 use desk_answer::{Answered, answer_database};
 use desk_database::open_database;
 use desk_options::AnswerOptions;
@@ -74,15 +75,28 @@ fn opened_status<R: Read, W: Write, E: Write>(
     status
 }
 
+/// Whether a file is marked as that of a later epoch than the first. A fault is left to who opens the state in it.
+fn is_of_later_epoch<S: Alter>(opened: &mut Result<Connection<S>, Error>) -> bool {
+    match opened {
+        Ok(connection) => matches!(is_of_epoch(connection, 0), Ok(false)),
+        Err(_) => false,
+    }
+}
+
 /// Answers packets between the standard streams as a node whose state an SQLite file keeps, tells the standard error
-/// what ended that, where it was a fault, and gives the exit status.
+/// what ended that, where it was a fault, and gives the exit status. A file that is marked as that of a later epoch is
+/// refused by `WrongFile`.
 pub fn answer_file(rt: &HostRuntime, options: AnswerOptions) -> u8
     requires group { IsGroup options.owner.n }
     requires id { options.owner.id < options.owner.n }
     ensures status { result ≤ FAILED }
 {
     let AnswerOptions { owner, file } = options;
-    let opened = open_database(rt, file.as_str());
+    let mut opened = open_database(rt, file.as_str());
+    if is_of_later_epoch(&mut opened) {
+        let _ = close_file(opened.ok());
+        return later_epoch_status(&mut rt.stderr(), file.as_str());
+    }
     let mut input = CountedInput::new(rt.stdin());
     opened_status(
         rt.alloc(),

@@ -4,6 +4,7 @@ ghost use Rattle.std.specs.Prelude.{◌≡◌, ◌≤◌, IfErr};
 ghost use Rattle.desk_output.specs.Telling.{TellsFirst};
 ghost use Rattle.desk_output.specs.declared.telling.TheConstants.{FAILED};
 
+use crate::epoch_table::is_of_epoch;
 use crate::faults::{shown, unopened_status};
 use crate::names::name_in_epoch;
 use desk_archive::{Archived, archive_database, archived_owner};
@@ -48,21 +49,41 @@ fn missing_status<E: Write>(errors: &mut E, name: &str) -> u8
 /// How far an archive has come.
 #[derive(Drop)]
 struct Progress {
+    /// How many epochs came before.
+    epoch: u64,
     /// The node whose files came before, where there are any.
     owner: Option<Owner>,
     /// How many places they have.
     past: u64,
+    /// Whether the epoch has begun for sure: it is the first, or follows a full file. Else its file may be missing, or
+    /// be another's.
+    has_begun: bool,
+}
+
+/// What the file of an epoch has committed.
+#[derive(Drop)]
+struct Committed {
+    owner: Owner,
+    /// How many entries.
+    count: u64,
 }
 
 /// Writes the lines of a copy of a node's file from a place on, and tells its node and how many entries are committed.
+/// Nothing where the copy is of another epoch, and that epoch may not have begun.
 fn archive_copied<S: Alter, W: Write>(
     alloc: Global,
     writer: &mut W,
     connection: Connection<S>,
     before: &Progress,
     from: u64,
-) -> (Connection<S>, Result<(Owner, u64), Refusal>) {
+) -> (Connection<S>, Result<Option<Committed>, Refusal>) {
     let mut connection = connection;
+    match is_of_epoch(&mut connection, before.epoch) {
+        Ok(true) => {}
+        Ok(false) if before.has_begun => return (connection, Err(Refusal::WrongFile)),
+        Ok(false) => return (connection, Ok(None)),
+        Err(refusal) => return (connection, Err(refusal)),
+    }
     let owner = match archived_owner(alloc, &mut connection, &before.owner) {
         Ok(owner) => owner,
         Err(refusal) => return (connection, Err(refusal)),
@@ -79,7 +100,7 @@ fn archive_copied<S: Alter, W: Write>(
         from,
     );
     match result {
-        Ok(committed) => (connection, Ok((owner, committed))),
+        Ok(count) => (connection, Ok(Some(Committed { owner, count }))),
         Err(refusal) => (connection, Err(refusal)),
     }
 }
@@ -92,37 +113,19 @@ fn archive_copy<W: Write>(
     connection: Connection<FileStore<Memory>>,
     before: &Progress,
     from: u64,
-) -> Result<(Owner, u64), Refusal> {
+) -> Result<Option<Committed>, Refusal> {
     let (connection, archived) = archive_copied(alloc, writer, connection, before, from);
     drop(connection.into_store().close());
     archived
 }
 
-/// Writes the lines of the file of this name from a place on, where it is there. Else a
-/// fault is printed to standard error, and the exit status is the answer.
-fn archive_file<W: Write>(
-    host: &HostRuntime,
-    writer: &mut W,
-    name: &str,
-    before: &Progress,
-    from: u64,
-) -> Result<Option<(Owner, u64)>, u8>
-    ensures { IfErr result (λ status. status ≡ FAILED) }
-{
-    let connection = match open_copy(host, name) {
-        Ok(Some(connection)) => connection,
-        Ok(None) => return Ok(None),
-        Err(error) => return Err(unopened_status(&mut host.stderr(), name, &error)),
-    };
-    match archive_copy(host.alloc(), writer, connection, before, from) {
-        Ok(found) => Ok(Some(found)),
-        Err(refusal) => Err(unarchived_status(&mut host.stderr(), name, &refusal)),
+/// Whether a desk may have no file of an epoch that comes next. After a full file one is missing, but for a desk of one
+/// file, which has none after that.
+fn may_lack(host: &HostRuntime, file: &str, before: &Progress) -> bool {
+    if !before.has_begun {
+        return true;
     }
-}
-
-/// Whether a desk may have no file of an epoch after one that is over. A desk of one file has none after that.
-fn may_lack(host: &HostRuntime, file: &str, epoch: u64) -> bool {
-    if epoch != 1 {
+    if before.epoch != 1 {
         return false;
     }
     match name_in_epoch(host.alloc(), file, 2) {
@@ -131,8 +134,31 @@ fn may_lack(host: &HostRuntime, file: &str, epoch: u64) -> bool {
     }
 }
 
-/// Writes the lines of a node's files, one after the other, from a place on. Where a file is over, that of the next
-/// epoch follows.
+/// Writes the lines of the file of an epoch of this name from a place on, where it is there, or where there may be
+/// none. Else a fault is printed to standard error, and the exit status is the answer.
+fn archive_file<W: Write>(
+    host: &HostRuntime,
+    writer: &mut W,
+    name: &str,
+    before: &Progress,
+    options: &LogOptions,
+) -> Result<Option<Committed>, u8>
+    ensures { IfErr result (λ status. status ≡ FAILED) }
+{
+    let connection = match open_copy(host, name) {
+        Ok(Some(connection)) => connection,
+        Ok(None) if may_lack(host, options.file.as_str(), before) => return Ok(None),
+        Ok(None) => return Err(missing_status(&mut host.stderr(), name)),
+        Err(error) => return Err(unopened_status(&mut host.stderr(), name, &error)),
+    };
+    match archive_copy(host.alloc(), writer, connection, before, options.from) {
+        Ok(found) => Ok(found),
+        Err(refusal) => Err(unarchived_status(&mut host.stderr(), name, &refusal)),
+    }
+}
+
+/// Writes the lines of a node's files, one after the other, from a place on. An epoch has an entry at least, and none
+/// has begun after one without.
 fn archive_files<W: Write>(
     host: &HostRuntime,
     writer: &mut W,
@@ -140,41 +166,38 @@ fn archive_files<W: Write>(
 ) -> Result<(), u8>
     ensures { IfErr result (λ status. status ≡ FAILED) }
 {
-    let file = options.file.as_str();
     let mut before = Progress {
+        epoch: 0,
         owner: None,
         past: 0,
+        has_begun: true,
     };
     for epoch in 0..u64::MAX {
-        let Ok(name) = name_in_epoch(host.alloc(), file, epoch) else {
+        before.epoch = epoch;
+        let Ok(name) = name_in_epoch(host.alloc(), options.file.as_str(), epoch) else {
             return Err(refusal_status(&mut host.stderr(), &Refusal::WantOfMemory));
         };
-        let (owner, committed) = match archive_file(
-            host,
-            writer,
-            name.as_str(),
-            &before,
-            options.from,
-        ) {
-            Ok(Some(found)) => found,
-            Ok(None) if may_lack(host, file, epoch) => return Ok(()),
-            Ok(None) => return Err(missing_status(&mut host.stderr(), name.as_str())),
+        let found = match archive_file(host, writer, name.as_str(), &before, options) {
+            Ok(found) => found,
             Err(status) => return Err(status),
         };
-        if committed < LOG_ENTRIES {
+        let Some(Committed { owner, count }) = found else {
+            return Ok(());
+        };
+        if count == 0 {
             return Ok(());
         }
-        before = Progress {
-            owner: Some(owner),
-            past: before.past.saturating_add(committed),
-        };
+        before.owner = Some(owner);
+        before.past = before.past.saturating_add(count);
+        before.has_begun = count >= LOG_ENTRIES;
     }
     Ok(())
 }
 
 /// Prints the document lines of the commands that a node's files have committed, from a place on, in the order of their
 /// places, and answers the exit status. Each file is copied into memory first, with the log beside it, and none is
-/// changed or made. After a fault its number and name stand in the standard error, and the lines before it are printed:
+/// changed or made. A file may be followed by one that is marked as that of the next epoch, and a full one is, but for
+/// the first. After a fault its number and name stand in the standard error, and the lines before it are printed:
 /// a file that a node has open or that can not be read is `StoreFault`, one that is missing or another node's
 /// `WrongFile`.
 pub fn log_file(host: &HostRuntime, options: LogOptions) -> u8

@@ -178,6 +178,19 @@ pub fn unopened_status<'a, E: Write>(errors: &mut E, file: &'a str, error: &Erro
     }
 }
 
+/// Tells the standard error that a file is that of a later epoch than the first, and answers the exit status.
+pub(crate) fn later_epoch_status<E: Write>(errors: &mut E, file: &str) -> u8
+    ensures status { result ≡ FAILED }
+    ensures printed { TellsFirst (E.contents errors.old) (E.contents errors.new) refusals.WrongFile }
+{
+    let words = [
+        Text("desk: "),
+        Text(shown(file)),
+        Text(" is the file of a later epoch\n"),
+    ];
+    refusal_status_with(errors, &Refusal::WrongFile, &words)
+}
+
 /// What is printed after the node that a file names, where that is the one that was asked for. The domain that was
 /// asked for is not at hand here.
 fn what_differs(owner: &NamedOwner, file: NodeFile<'_>) -> &'static str {

@@ -6,6 +6,7 @@
 mod answering;
 mod archiving;
 mod ended;
+mod epoch_table;
 mod faults;
 mod keys;
 mod names;
@@ -14,6 +15,7 @@ mod opening;
 pub use answering::answer_file;
 pub use archiving::log_file;
 pub use ended::{ClosedFile, EndedFile, close_file};
+pub use epoch_table::{is_of_epoch, marked_epoch};
 pub use faults::{FileEnd, NodeFile, closed_status, unopened_status};
 pub use keys::{read_given_key, read_key};
 pub use names::name_in_epoch;

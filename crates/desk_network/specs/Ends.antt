@@ -1,14 +1,14 @@
 -- What ends nodes on a network.
-use Rattle.std.specs.Prelude.{◌≡◌, ◌⊎◌, false, Option, None, Some}
+use Rattle.std.specs.Prelude.{◌≡◌, ◌⊎◌, false}
 use Rattle.desk_types.specs.declared.refusal.Refusal.{Refusal}
 use Rattle.desk_types.specs.Refusal.{IsStoreRefusal, IsWritingFault}
 use Rattle.desk_log.specs.declared.state_store.StateStore.{Ghosts}
+use Rattle.desk_epoch_stores.specs.declared.ended_stores.EndedStores.{EndedStores}
 
 -- The nodes were not started, or the store of one failed (`StoreFault`, or `NodeStopped` where it had failed before).
 abbrev pub IsServingEnd : Refusal → Type 0
 IsServingEnd r = IsWritingFault r ⊎ IsStoreRefusal r
 
--- The store came back, and has not failed.
-abbrev pub HasRunningStore : {S : Type 0} → Ghosts S → Option S → Type 0
-HasRunningStore g None = ⊥
-HasRunningStore g (Some store) = g.stopped store ≡ false
+-- The store of the epoch in which the node ended has not failed.
+abbrev pub HasRunningStore : {T S : Type 0} → Ghosts S → EndedStores T S → Type 0
+HasRunningStore g ended = g.stopped ended.current ≡ false

@@ -3,3 +3,4 @@ pub mod Putting
 pub mod Queued
 pub mod QueuedInOrder
 pub mod Watched
+pub mod Unwatched

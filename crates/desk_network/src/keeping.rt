@@ -7,22 +7,24 @@ ghost use Rattle.desk_types.specs.Refusal.{IsStoreRefusal};
 ghost use Rattle.desk_network.specs.Ends.{HasRunningStore};
 
 use crate::catching_up::CatchingUp;
+use desk_epoch_replica::DeferringReplica;
+use desk_epoch_stores::{EndedStores, EpochStores};
 use desk_events::EventLog;
 use desk_log::StateStore;
 use desk_peers::{PeerQueue, PeerQueues, open_queues};
 use desk_published::BoardName;
-use desk_threads::{Keeper, KeeperGuard, Out, SavedNode, TURN_ITEMS};
+use desk_threads::{Keeper, KeeperGuard, Out, TURN_ITEMS};
 use desk_types::{EpochPacket, Refusal, WantOfMemory};
 use std::alloc::Global;
 use std::sync::Wait;
 use std::thread;
 use std::thread::{Promise, PromisedHandle, Threads};
 
-/// What comes back of a node that has ended, or was not started.
+/// What comes back of a node that has ended.
 #[derive(Drop)]
-pub struct NodeEnd<S> {
-    /// What its state was saved to; none where the node was not started for want of memory.
-    pub store: Option<S>,
+pub struct NodeEnd<T, S> {
+    /// What its states were saved to. They are to be closed.
+    pub stores: EndedStores<T, S>,
     /// Ok after a stop, else the fault.
     pub outcome: Result<(), Refusal>,
 }
@@ -65,36 +67,34 @@ impl<W: Wait + Drop> Out for QueuedPackets<W> {
 #[derive(Clone, Copy)]
 pub(crate) struct EndsByStore;
 
-impl<S: StateStore> Promise<NodeEnd<S>> for EndsByStore {
+impl<T, S: StateStore> Promise<NodeEnd<T, S>> for EndsByStore {
     ghost use Rattle.std.specs.Prelude.{OnOk, IfErr};
     ghost use Rattle.desk_types.specs.Refusal.{IsStoreRefusal};
     ghost use Rattle.desk_network.specs.Ends.{HasRunningStore};
 
     ghost kept_by = { λ p end. IfErr end.outcome IsStoreRefusal
-        × OnOk end.outcome (HasRunningStore S.StateStore end.store) };
+        × OnOk end.outcome (HasRunningStore S.StateStore end.stores) };
 }
 
 /// The thread of a node's keeper.
-pub(crate) type KeeperThread<S> = PromisedHandle<NodeEnd<S>, EndsByStore>;
+pub(crate) type KeeperThread<T, S> = PromisedHandle<NodeEnd<T, S>, EndsByStore>;
 
 /// Runs the keeper to its end.
-fn keep<B: BoardName, S: StateStore + Drop, R: Wait + Drop>(
+fn keep<B: BoardName, T: EpochStores + Drop, R: Wait + Drop>(
     rt: &R,
-    guard: KeeperGuard<B, SavedNode<S>, R>,
+    guard: KeeperGuard<B, DeferringReplica<T>, R>,
     out: QueuedPackets<R>,
-) -> NodeEnd<S>
+) -> NodeEnd<T, T::Store>
     requires running { guard.keeper.value.stopped ≡ false }
     ensures fault { IfErr result.outcome IsStoreRefusal }
-    ensures running { OnOk result.outcome (HasRunningStore S.StateStore result.store) }
+    ensures running { OnOk result.outcome (HasRunningStore T.Store.StateStore result.stores) }
 {
     let mut out = out;
     let (keeper, outcome) = guard.into_keeper().run_turns(rt, TURN_ITEMS, &mut out);
-    let (taker, preserved) = keeper.end(rt);
-    let (owned, store) = preserved.into_parts();
+    let (taker, replica) = keeper.end(rt);
     drop(taker);
-    drop(owned);
     NodeEnd {
-        store: Some(store),
+        stores: replica.into_replica().into_stores(),
         outcome,
     }
 }
@@ -103,16 +103,18 @@ fn keep<B: BoardName, S: StateStore + Drop, R: Wait + Drop>(
 /// thread, and the ends at which the packets are taken.
 pub(crate) fn start_keeper<
     B: BoardName + Send + Sync + 'static,
-    S: StateStore + Drop + Send + 'static,
+    T: EpochStores + Drop + Send + 'static,
     R: Threads + Wait + Drop + Copy + Send + Sync + 'static,
 >(
     rt: &R,
     alloc: Global,
     id: u8,
     n: u8,
-    keeper: Keeper<B, SavedNode<S>>,
+    keeper: Keeper<B, DeferringReplica<T>>,
     log: EventLog,
-) -> Result<(KeeperThread<S>, Vec<PeerQueue>), WantOfMemory>
+) -> Result<(KeeperThread<T, T::Store>, Vec<PeerQueue>), WantOfMemory>
+where
+    T::Store: Send + 'static,
     requires group { IsGroup n }
     requires id { id < n }
     requires running { keeper.stopped ≡ false }

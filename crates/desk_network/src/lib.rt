@@ -9,7 +9,9 @@ pub mod laws;
 mod node;
 mod serving;
 mod watched_store;
+mod watched_stores;
 
 pub use group::serve_group;
 pub use keeping::{NodeEnd, QueuedPackets};
+pub use node::NodeEpochs;
 pub use serving::serve_node;

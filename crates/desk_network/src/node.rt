@@ -1,8 +1,13 @@
 //! A node and its threads.
 
-ghost use Rattle.std.specs.Prelude.{◌≡◌, ◌<◌, ◌+◌, ◌^◌, false, IfOk, IfSome, string_bytes};
+ghost use Rattle.std.specs.Prelude.{◌≡◌, ◌<◌, ◌≤◌, ◌+◌, ◌^◌, IfOk, IfErr, IfSome, IsSome};
+ghost use Rattle.std.specs.Prelude.{string_bytes};
+ghost use Rattle.desk_connections.specs.Ports.{port_key, IsPeersEndpoint};
 ghost use Rattle.desk_admission.specs.Hosts.{host_of};
 ghost use Rattle.desk_types.specs.Group.{IsGroup};
+ghost use Rattle.desk_types.specs.declared.limits.TheConstants.{LOG_ENTRIES};
+ghost use Rattle.desk_types.specs.declared.refusal.Refusal.TheVariants as refusals;
+ghost use Rattle.desk_epoch_replica.specs.Refusals.{IsStartRefusal};
 
 use crate::keeping::{KeeperThread, start_keeper};
 use desk_admission::{Endpoint, GroupAddress, KeyedPort};
@@ -10,25 +15,38 @@ use desk_connections::{
     EndFlag, NodePorts, NodeRuntime, PeerAddress, start_link, start_peer, start_session,
     start_timer,
 };
+use desk_epoch_opening::{RefusedOpening, open_epochs};
+use desk_epoch_stores::EpochStores;
 use desk_events::EventLog;
-use desk_log::StateStore;
 use desk_mailbox::{Item, Sender};
 use desk_peers::PeerQueue;
 use desk_published::{BoardName, NewHistory};
 use desk_sessions::{KeeperWords, Wire};
-use desk_threads::{PEERS, SessionEnds, open_saved};
+use desk_threads::{PEERS, SessionEnds};
 use desk_types::{Domain, Owner, WantOfMemory, peer_port};
 use std::alloc::Global;
 use std::marker::Brand;
 
+/// The epochs of a node.
+#[derive(Clone, Copy)]
+pub struct NodeEpochs {
+    /// How many places one has, in entries, 1 to 65,536.
+    pub places: u64,
+    /// The token of the node, which is 0 where it began with its group.
+    pub token: u64,
+    pub ghost least: { 1 ≤ places },
+    pub ghost most: { places ≤ LOG_ENTRIES },
+}
+
 /// What a node starts with.
-pub(crate) struct NodeStart<S> {
+pub(crate) struct NodeStart<T> {
     pub(crate) owner: Owner,
     /// How the other nodes are reached.
     pub(crate) address: GroupAddress,
     pub(crate) ports: NodePorts,
-    /// Holds its state.
-    pub(crate) store: S,
+    pub(crate) epochs: NodeEpochs,
+    /// Opens what holds its states.
+    pub(crate) stores: T,
     pub(crate) ends: EndFlag,
     /// Where its events are announced.
     pub(crate) log: EventLog,
@@ -98,8 +116,11 @@ impl Dialler {
             string_bytes peer.host ≡ host_of self.now.address.hosts.text node) }
         ensures port { self.now.address.first + node < 2 ^ 16 →
             IfOk result (λ peer. peer.port ≡ self.now.address.first + node) }
+        // Where the group has a key, the node is dialled by that,
+        ensures key { IfOk result (λ peer. port_key peer.keyed ≡ self.now.address.key) }
+        // and by a proof that holds for no other node, port or group.
         ensures keyed { IfOk result (λ peer. IfSome peer.keyed (λ keyed.
-            (keyed.endpoint.node ≡ node) × (keyed.endpoint.port ≡ peer.port))) }
+            IsPeersEndpoint node self.now.nodes self.now.domain peer.port keyed.endpoint)) }
         ensures from { IfOk result (λ peer. peer.from ≡ self.now.from) }
     {
         let port = peer_port(self.address.first, node);
@@ -138,25 +159,29 @@ fn start_links<R: NodeRuntime>(
 /// Starts a node whose published board has this name, and gives the thread of its keeper. Once the flag is set it ends.
 fn start_named<
     B: BoardName + Send + Sync + 'static,
-    S: StateStore + Drop + Send + 'static,
+    T: EpochStores + Drop + Send + 'static,
     R: NodeRuntime,
 >(
     rt: &R,
     alloc: Global,
     history: NewHistory,
-    start: NodeStart<S>,
-) -> Result<KeeperThread<S>, WantOfMemory>
+    start: NodeStart<T>,
+) -> Result<KeeperThread<T, T::Store>, RefusedOpening<T>>
+where
+    T::Store: Send + 'static,
     requires book { history.seen.book ≡ B.book }
     requires domain { start.owner.domain ≡ B.domain }
     requires group { IsGroup start.owner.n }
     requires id { start.owner.id < start.owner.n }
-    requires running { S.stopped start.store ≡ false }
+    ensures refused { IfErr result (λ refused. IsStartRefusal refused.refusal) }
+    ensures back { IfErr result (λ refused. refused.refusal ≡ refusals.WrongFile → IsSome refused.stores) }
 {
     let NodeStart {
         owner,
         address,
         ports,
-        store,
+        epochs,
+        stores,
         ends,
         log,
     } = start;
@@ -168,7 +193,15 @@ fn start_named<
         domain: owner.domain.copy()?,
     };
     let of_keeper = log.share()?;
-    let (keeper, senders, sessions) = open_saved::<B, S, R>(rt, alloc, history, owner, store)?;
+    let (keeper, senders, sessions) = open_epochs::<B, T, R>(
+        rt,
+        alloc,
+        history,
+        owner,
+        epochs.token,
+        epochs.places,
+        stores,
+    )?;
     // where a thread around it can't be started, its senders go, and it ends
     let (thread, takers) = start_keeper(rt, alloc, id, n, keeper, of_keeper)?;
     start_links(rt, alloc, &dialler, takers, &log)?;
@@ -176,15 +209,18 @@ fn start_named<
     Ok(thread)
 }
 
-/// Starts a node, and gives the thread of its keeper. Once the flag is set it ends.
-pub(crate) fn start_node<S: StateStore + Drop + Send + 'static, R: NodeRuntime>(
+/// Starts a node, and gives the thread of its keeper. Once the flag is set it ends. Err is as `open_epochs` says.
+pub(crate) fn start_node<T: EpochStores + Drop + Send + 'static, R: NodeRuntime>(
     rt: &R,
     alloc: Global,
-    start: NodeStart<S>,
-) -> Result<KeeperThread<S>, WantOfMemory>
+    start: NodeStart<T>,
+) -> Result<KeeperThread<T, T::Store>, RefusedOpening<T>>
+where
+    T::Store: Send + 'static,
     requires group { IsGroup start.owner.n }
     requires id { start.owner.id < start.owner.n }
-    requires running { S.stopped start.store ≡ false }
+    ensures refused { IfErr result (λ refused. IsStartRefusal refused.refusal) }
+    ensures back { IfErr result (λ refused. refused.refusal ≡ refusals.WrongFile → IsSome refused.stores) }
 {
-    start_named::<Brand, S, R>(rt, alloc, NewHistory::new(), start)
+    start_named::<Brand, T, R>(rt, alloc, NewHistory::new(), start)
 }

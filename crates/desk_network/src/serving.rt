@@ -1,14 +1,19 @@
 //! A node that serves until the standard input ends.
 
-ghost use Rattle.std.specs.Prelude.{◌≡◌, ◌<◌, false, IfErr, IfOk, OnOk, option_map};
+ghost use Rattle.std.specs.Prelude.{◌≡◌, ◌<◌, IfErr, IfOk, IsSome, OnOk};
 ghost use Rattle.desk_types.specs.Group.{IsGroup};
-ghost use Rattle.desk_network.specs.Ends.{IsServingEnd, HasRunningStore};
+ghost use Rattle.desk_epoch_replica.specs.Refusals.{IsStartRefusal};
+ghost use Rattle.desk_network.specs.Ends.{HasRunningStore, IsServingEnd};
+ghost use Rattle.desk_network.specs.Unwatched.{unwatched, unwatched_refusal};
 ghost use Rattle.desk_types.specs.declared.refusal.Refusal.TheVariants as refusals;
 
 use crate::keeping::{KeeperThread, NodeEnd};
-use crate::node::{NodeStart, start_node};
-use crate::watched_store::{SaveNews, WatchedStore};
+use crate::node::{NodeEpochs, NodeStart, start_node};
+use crate::watched_store::WatchedStore;
+use crate::watched_stores::WatchedStores;
 use desk_connections::{EndFlag, NodeRuntime, NodeSetup, end_with_input};
+use desk_epoch_opening::RefusedOpening;
+use desk_epoch_stores::{EndedStores, EpochStores};
 use desk_log::StateStore;
 use desk_output::{flush, write_text};
 use desk_types::{Refusal, WantOfMemory};
@@ -35,8 +40,8 @@ impl EndFlags {
 }
 
 /// A node that was started.
-struct ServedNode<S: StateStore> {
-    keeper: KeeperThread<S>,
+struct ServedNode<T, S: StateStore> {
+    keeper: KeeperThread<T, S>,
     /// Whether `ready` was written.
     reported: Result<(), Refusal>,
 }
@@ -49,26 +54,26 @@ pub(crate) fn tell_ready<W: Write>(writer: &mut W) -> Result<(), Refusal>
     flush(writer)
 }
 
-/// Starts the node whose state the store holds, and writes that it is ready. Where that can't be written, it is to end.
-fn start_serving<S: StateStore + Drop + Send + 'static, R: NodeRuntime + Input, W: Write>(
+/// Starts the node whose states these stores hold, and writes that it is ready. Where that can't be written, it is to
+/// end.
+fn start_serving<T: EpochStores + Drop + Send + 'static, R: NodeRuntime + Input, W: Write>(
     rt: &R,
     alloc: Global,
     writer: &mut W,
     setup: NodeSetup,
-    store: S,
-) -> Result<ServedNode<S>, WantOfMemory>
+    epochs: NodeEpochs,
+    stores: T,
+) -> Result<ServedNode<T, T::Store>, RefusedOpening<T>>
 where
+    T::Store: Send + 'static,
     R::Reader: Send,
     requires group { IsGroup setup.owner.n }
     requires id { setup.owner.id < setup.owner.n }
-    requires running { S.stopped store ≡ false }
+    ensures refused { IfErr result (λ refused. IsStartRefusal refused.refusal) }
+    ensures back { IfErr result (λ refused. refused.refusal ≡ refusals.WrongFile → IsSome refused.stores) }
     ensures reported { IfOk result (λ served. IfErr served.reported (λ r. r ≡ refusals.WriteFault)) }
 {
-    let Ok(EndFlags { own, timer, input }) = EndFlags::new(alloc) else {
-        drop(setup);
-        drop(store);
-        return Err(WantOfMemory);
-    };
+    let EndFlags { own, timer, input } = EndFlags::new(alloc)?;
     let NodeSetup {
         owner,
         address,
@@ -79,7 +84,8 @@ where
         owner,
         address,
         ports,
-        store,
+        epochs,
+        stores,
         ends: timer,
         log,
     };
@@ -92,55 +98,80 @@ where
     Ok(ServedNode { keeper, reported })
 }
 
-/// The store that was watched, where it came back.
-fn unwatched<S, R: Drop>(watched: Option<WatchedStore<S, R>>) -> Option<S>
-    ensures { result ≡ option_map (λ w. w.store) watched }
+/// The stores that were watched.
+fn unwatched<T, S, R: Drop>(
+    watched: EndedStores<WatchedStores<T, R>, WatchedStore<S, R>>,
+) -> EndedStores<T, S>
+    ensures { result ≡ unwatched watched }
 {
-    match watched {
-        Some(watched) => Some(watched.into_store()),
+    let EndedStores {
+        stores,
+        epoch,
+        current,
+        next,
+    } = watched;
+    let next = match next {
+        Some(next) => Some(next.into_store()),
         None => None,
+    };
+    EndedStores {
+        stores: stores.into_stores(),
+        epoch,
+        current: current.into_store(),
+        next,
     }
 }
 
-/// Serves as the node whose state a store keeps, until the standard input ends or the store fails; `ready` is written
-/// once the node serves. It ends by `WantOfMemory` where memory is refused at the start, by `StoreFault` where the
-/// store fails, and by `WriteFault` where `ready` could not be written.
-pub fn serve_node<S: StateStore + Drop + Send + 'static, R: NodeRuntime + Input, W: Write>(
+/// The refusal of a node whose stores were to be watched.
+fn unwatched_refusal<T, R: Drop>(refused: RefusedOpening<WatchedStores<T, R>>) -> RefusedOpening<T>
+    ensures { result ≡ unwatched_refusal refused }
+{
+    let RefusedOpening { refusal, stores } = refused;
+    let stores = match stores {
+        Some(stores) => Some(stores.into_stores()),
+        None => None,
+    };
+    RefusedOpening { refusal, stores }
+}
+
+/// Serves as the node whose states are kept by what these stores open, until the standard input ends or a store fails;
+/// `ready` is written once the node serves. It ends by `StoreFault` where a store fails, and by `WriteFault` where
+/// `ready` could not be written. Err is a node that was not started: by `WantOfMemory`, by `StoreFault` where a store
+/// fails, by `WrongFile` where one is missing or another node's, and by `NodeStopped` where another node acts in its
+/// place.
+pub fn serve_node<T: EpochStores + Drop + Send + 'static, R: NodeRuntime + Input, W: Write>(
     rt: &R,
     alloc: Global,
     writer: &mut W,
     setup: NodeSetup,
-    store: S,
-) -> NodeEnd<S>
+    epochs: NodeEpochs,
+    stores: T,
+) -> Result<NodeEnd<T, T::Store>, RefusedOpening<T>>
 where
+    T::Store: Send + 'static,
     R::Reader: Send,
     requires group { IsGroup setup.owner.n }
     requires id { setup.owner.id < setup.owner.n }
-    requires running { S.stopped store ≡ false }
-    ensures fault { IfErr result.outcome IsServingEnd }
+    ensures fault { IfOk result (λ end. IfErr end.outcome IsServingEnd) }
     // It ends well with a store that has not failed.
-    ensures running { OnOk result.outcome (HasRunningStore S.StateStore result.store) }
+    ensures running { IfOk result (λ end. OnOk end.outcome (HasRunningStore T.Store.StateStore end.stores)) }
+    ensures refused { IfErr result (λ refused. IsStartRefusal refused.refusal) }
+    // What opens the stores tells which of them is missing or another node's.
+    ensures back { IfErr result (λ refused. refused.refusal ≡ refusals.WrongFile → IsSome refused.stores) }
 {
     let Ok(log) = setup.log.share() else {
         drop(setup);
-        drop(store);
-        return NodeEnd {
-            store: None,
-            outcome: Err(Refusal::WantOfMemory),
-        };
+        return Err(RefusedOpening::with(Refusal::WantOfMemory, stores));
     };
-    let news = SaveNews::new(*rt, log, setup.owner.n);
-    match start_serving(rt, alloc, writer, setup, WatchedStore::new(store, news)) {
+    let watched = WatchedStores::new(stores, *rt, log, setup.owner.n);
+    match start_serving(rt, alloc, writer, setup, epochs, watched) {
         Ok(ServedNode { keeper, reported }) => {
-            let NodeEnd { store, outcome } = keeper.join(rt);
-            NodeEnd {
-                store: unwatched(store),
+            let NodeEnd { stores, outcome } = keeper.join(rt);
+            Ok(NodeEnd {
+                stores: unwatched(stores),
                 outcome: outcome.and(reported),
-            }
+            })
         }
-        Err(WantOfMemory) => NodeEnd {
-            store: None,
-            outcome: Err(Refusal::WantOfMemory),
-        },
+        Err(refused) => Err(unwatched_refusal(refused)),
     }
 }

@@ -2,9 +2,10 @@
 use Rattle.std.proofs.Common.{◌≡◌, ◌≤◌, ℕ, List, Option, None, Some, codes, arith}
 use Rattle.clap.specs.Simple.{matches_of}
 use Rattle.clap.specs.Walk.{Row, first_of}
-use Rattle.desk_options.specs.CommandLine.{AreSeconds, IsFrom, AsksFor, FindsGroup, log_app, page_app, send_app}
-use Rattle.desk_options.specs.Host.{AreInRange, AsksHost, IsFollowInRange, IsRunInRange}
-use Rattle.desk_types.specs.declared.limits.TheConstants.{LAST_PLACE}
+use Rattle.desk_options.specs.CommandLine.{AreEpochPlaces, AreSeconds, IsFrom, AsksFor, FindsGroup}
+use Rattle.desk_options.specs.CommandLine.{cluster_app, log_app, page_app, send_app, serve_app}
+use Rattle.desk_options.specs.Host.{AreInRange, AsksHost, FitsEpoch, IsFollowInRange, IsRunInRange}
+use Rattle.desk_types.specs.declared.limits.TheConstants.{LAST_PLACE, LOG_ENTRIES}
 use Rattle.desk_options.specs.declared.command_line.choice.FollowOptions.{FollowOptions}
 use Rattle.desk_options.specs.declared.command_line.choice.Options.{Options}
 use Rattle.desk_options.specs.declared.command_line.choice.Options.TheVariants as asked
@@ -21,6 +22,10 @@ place_range : (given : Option (List ℕ)) (place : ℕ) → IsFrom given place �
 place_range None place first = let is : place ≡ 1 = first in (omega arith, omega arith)
 place_range (Some text) place spelled = (spelled.least, spelled.most)
 
+epoch_range : (given : Option (List ℕ)) (places : ℕ) → AreEpochPlaces given places → FitsEpoch places
+epoch_range None places most = let is : places ≡ LOG_ENTRIES = most in (omega arith, omega arith)
+epoch_range (Some text) places spelled = (spelled.least, spelled.most)
+
 followed_range : (rows : List Row) (group : Option FollowOptions) → FindsGroup rows group → IsFollowInRange group
 followed_range rows None finds = tt
 followed_range rows (Some group) finds =
@@ -34,8 +39,15 @@ run_in_range words (Serve options) asks = (
   asks.finds_owner.nodes.spelled.few,
   asks.finds_owner.node.spelled.below,
   asks.finds_port.spelled.range,
+  epoch_range (first_of (codes "epoch-places") (matches_of serve_app words)) options.epoch_places
+      asks.finds_epoch_places,
 )
-run_in_range words (Cluster options) asks = (asks.finds_nodes.spelled.few, asks.finds_port.spelled.range)
+run_in_range words (Cluster options) asks = (
+  asks.finds_nodes.spelled.few,
+  asks.finds_port.spelled.range,
+  epoch_range (first_of (codes "epoch-places") (matches_of cluster_app words)) options.epoch_places
+      asks.finds_epoch_places,
+)
 run_in_range words (Send options) asks =
     (asks.finds_port.spelled.range, followed_range (matches_of send_app words) options.group asks.finds_group)
 run_in_range words (Status options) asks = (asks.finds_nodes.spelled.few, asks.finds_port.spelled.range)

@@ -32,7 +32,9 @@ use Rattle.desk_options.specs.CommandLine.{SpellsPort, FindsPort, AsksServe, Ask
 use Rattle.desk_options.specs.CommandLine.{SpellsSeconds, AreSeconds, FindsSeconds, FindsGroup, AreFollowOptions}
 use Rattle.desk_options.specs.CommandLine.{IsFollowed, AsksVersion, AsksPage, AsksLog, FindsListen}
 use Rattle.desk_options.specs.CommandLine.{SpellsPlace, IsFrom, FindsFrom}
+use Rattle.desk_options.specs.CommandLine.{SpellsUpTo, AreEpochPlaces, FindsEpochPlaces}
 use Rattle.desk_options.specs.CommandLine.{most_port}
+use Rattle.desk_types.specs.declared.limits.TheConstants.{LOG_ENTRIES}
 use Rattle.desk_options.specs.declared.command_line.send.TheConstants.{USUAL_SECONDS}
 use Rattle.desk_options.specs.declared.command_line.port.TheConstants.{MOST_PORT}
 
@@ -358,6 +360,21 @@ no_from_in rows text given none place finds = none place (subst (λ t. IsFrom t 
 
 pub first_place : (rows : List Row) → first_of (codes "from") rows ≡ None → FindsFrom rows 1
 first_place rows given = subst (λ t. IsFrom t 1) (sym given) refl
+
+-- the places of an epoch among what was found
+
+pub epoch_places_in : (rows : List Row) (text : List ℕ) (places : ℕ) →
+    first_of (codes "epoch-places") rows ≡ Some text → SpellsUpTo text LOG_ENTRIES places →
+    FindsEpochPlaces rows places
+epoch_places_in rows text places given spelled = subst (λ t. AreEpochPlaces t places) (sym given) spelled
+
+pub no_epoch_places_in : (rows : List Row) (text : List ℕ) → first_of (codes "epoch-places") rows ≡ Some text →
+    ((places : ℕ) → SpellsUpTo text LOG_ENTRIES places → ⊥) → (places : ℕ) → FindsEpochPlaces rows places → ⊥
+no_epoch_places_in rows text given none places finds = none places (subst (λ t. AreEpochPlaces t places) given finds)
+
+pub most_epoch_places : (rows : List Row) → first_of (codes "epoch-places") rows ≡ None →
+    FindsEpochPlaces rows LOG_ENTRIES
+most_epoch_places rows given = subst (λ t. AreEpochPlaces t LOG_ENTRIES) (sym given) refl
 
 pub some_seconds : (rows : List Row) (text : List ℕ) → first_of (codes "seconds") rows ≡ Some text →
     first_of (codes "seconds") rows ≡ None → ⊥

@@ -12,7 +12,7 @@ use Rattle.clap.specs.declared.builder.value_parser.ValueParser.TheVariants.{Sig
 use Rattle.clap.specs.declared.parser.matches.ArgMatches.{ArgMatches}
 use Rattle.desk_types.specs.Group.{IsGroupSize}
 use Rattle.desk_types.specs.Identifier.{IsDomain}
-use Rattle.desk_types.specs.declared.limits.TheConstants.{LAST_PLACE}
+use Rattle.desk_types.specs.declared.limits.TheConstants.{LAST_PLACE, LOG_ENTRIES}
 use Rattle.desk_types.specs.declared.owner.Owner.{Owner}
 use Rattle.desk_options.specs.declared.command_line.OptionsFault.{OptionsFault}
 use Rattle.desk_options.specs.declared.command_line.OptionsFault.TheVariants.{WantOfMemory, Refused}
@@ -92,20 +92,30 @@ abbrev pub with_hosts : App → App
 with_hosts app = with_rule (with_rule (with_rule app (text_option_rule (codes "hosts")))
     (text_option_rule (codes "key"))) (text_option_rule (codes "client-key"))
 
--- `--log`, which has no value and may be left out
-abbrev pub log_rule : Rule
-log_rule = record (new_rule (codes "log")) { long = Some (codes "log"); action = Some SetTrue }
+-- an option of this name, `--NAME`, which has no value and may be left out
+abbrev pub flag_rule : Text → Rule
+flag_rule name = record (new_rule name) { long = Some name; action = Some SetTrue }
 
--- the command `serve --node NODE --nodes NODES --domain DOMAIN --port PORT --file FILE --log`, on several hosts
+-- `--epoch-places PLACES`, which may be left out
+abbrev pub epoch_places_rule : Rule
+epoch_places_rule = optional_rule (number_rule (codes "epoch-places") 1 LOG_ENTRIES)
+
+-- a command with `--next` and `--epoch-places PLACES`, which may be left out
+abbrev pub with_epochs : App → App
+with_epochs app = with_rule (with_rule app (flag_rule (codes "next"))) epoch_places_rule
+
+-- the command `serve --node NODE --nodes NODES --domain DOMAIN --port PORT --file FILE --log`, over epochs and on
+-- several hosts
 abbrev pub serve_app : App
-serve_app = with_hosts (with_rule
+serve_app = with_hosts (with_epochs (with_rule
     (with_rule (with_rule (with_rule (with_rule (with_rule (new_app (codes "serve")) node_rule) nodes_rule) domain_rule)
-    (port_rule MOST_GROUP_PORT)) file_rule) log_rule)
+    (port_rule MOST_GROUP_PORT)) file_rule) (flag_rule (codes "log"))))
 
--- the command `cluster --nodes NODES --domain DOMAIN --port PORT`
+-- the command `cluster --nodes NODES --domain DOMAIN --port PORT --epoch-places PLACES`
 abbrev pub cluster_app : App
-cluster_app =
-    with_rule (with_rule (with_rule (new_app (codes "cluster")) nodes_rule) domain_rule) (port_rule MOST_GROUP_PORT)
+cluster_app = with_rule
+    (with_rule (with_rule (with_rule (new_app (codes "cluster")) nodes_rule) domain_rule) (port_rule MOST_GROUP_PORT))
+    epoch_places_rule
 
 -- `--seconds SECONDS`, which may be left out
 abbrev pub seconds_rule : Rule
@@ -229,12 +239,16 @@ pub record FindsListen (rows : List Row) (port : ℕ) : Type 0 where
   pub given : first_of (codes "listen") rows ≡ Some text
   pub spelled : SpellsPort text MOST_PORT port
 
--- The text spells so many seconds, which may be given.
-pub record SpellsSeconds (text : List ℕ) (seconds : ℕ) : Type 0 where
+-- The text spells this number, from 1 to the greatest that may be given.
+pub record SpellsUpTo (text : List ℕ) (greatest number : ℕ) : Type 0 where
   pub numeral : IsNumeral 10 (without_leading_sign text)
-  pub value : signed_digits_value 10 text ≡ pos seconds
-  pub least : 1 ≤ seconds
-  pub most : seconds ≤ MOST_SECONDS
+  pub value : signed_digits_value 10 text ≡ pos number
+  pub least : 1 ≤ number
+  pub most : number ≤ greatest
+
+-- The text spells so many seconds, which may be given.
+abbrev pub SpellsSeconds : List ℕ → ℕ → Type 0
+SpellsSeconds text seconds = SpellsUpTo text MOST_SECONDS seconds
 
 -- the seconds are those that a text spells, or the usual ones where there is none
 abbrev pub AreSeconds : Option (List ℕ) → ℕ → Type 0
@@ -246,11 +260,8 @@ abbrev pub FindsSeconds : List Row → ℕ → Type 0
 FindsSeconds rows seconds = AreSeconds (first_of (codes "seconds") rows) seconds
 
 -- The text spells this place, which may be given.
-pub record SpellsPlace (text : List ℕ) (place : ℕ) : Type 0 where
-  pub numeral : IsNumeral 10 (without_leading_sign text)
-  pub value : signed_digits_value 10 text ≡ pos place
-  pub least : 1 ≤ place
-  pub most : place ≤ LAST_PLACE
+abbrev pub SpellsPlace : List ℕ → ℕ → Type 0
+SpellsPlace text place = SpellsUpTo text LAST_PLACE place
 
 -- the place is the one that a text spells, or the first where there is none
 abbrev pub IsFrom : Option (List ℕ) → ℕ → Type 0
@@ -260,6 +271,15 @@ IsFrom (Some text) place = SpellsPlace text place
 -- the place that was found to begin with is this
 abbrev pub FindsFrom : List Row → ℕ → Type 0
 FindsFrom rows place = IsFrom (first_of (codes "from") rows) place
+
+-- an epoch has as many places as a text spells, or the most where there is none
+abbrev pub AreEpochPlaces : Option (List ℕ) → ℕ → Type 0
+AreEpochPlaces None places = places ≡ LOG_ENTRIES
+AreEpochPlaces (Some text) places = SpellsUpTo text LOG_ENTRIES places
+
+-- the number of places of an epoch that was found is this
+abbrev pub FindsEpochPlaces : List Row → ℕ → Type 0
+FindsEpochPlaces rows places = AreEpochPlaces (first_of (codes "epoch-places") rows) places
 
 -- a group that was found to be followed is this
 abbrev pub AreFollowOptions : List Row → FollowOptions → Type 0
@@ -301,8 +321,8 @@ pub record AsksAnswer (words : List Text) (options : AnswerOptions) : Type 0 whe
   pub finds_owner : FindsOwner (matches_of answer_app words) options.owner
   pub finds_file : FindsFile (matches_of answer_app words) (string_bytes options.file)
 
--- `serve` is the first word, its command accepts the words, and the owner, the port, the file, the hosts, the keys and
--- whether there is a log are those that it finds there.
+-- `serve` is the first word, its command accepts the words, and the owner, the port, the file, the hosts, the keys,
+-- whether there is a log and whether a second file is made, and the places of an epoch are those that it finds there.
 pub record AsksServe (words : List Text) (options : ServeOptions) : Type 0 where
   pub first : slice_get words 0 ≡ Some (codes "serve")
   pub accepts : Accepts serve_app words
@@ -315,15 +335,18 @@ pub record AsksServe (words : List Text) (options : ServeOptions) : Type 0 where
   pub finds_client_key : FindsSessionKey (matches_of serve_app words)
       (option_map (λ t. string_bytes t) options.client_key)
   pub finds_log : FindsFlag (matches_of serve_app words) (codes "log") options.log
+  pub finds_next : FindsFlag (matches_of serve_app words) (codes "next") options.next
+  pub finds_epoch_places : FindsEpochPlaces (matches_of serve_app words) options.epoch_places
 
--- `cluster` is the first word, its command accepts the words, and the number of nodes, the domain and the port are
--- those that it finds there.
+-- `cluster` is the first word, its command accepts the words, and the number of nodes, the domain, the port and the
+-- places of an epoch are those that it finds there.
 pub record AsksCluster (words : List Text) (options : ClusterOptions) : Type 0 where
   pub first : slice_get words 0 ≡ Some (codes "cluster")
   pub accepts : Accepts cluster_app words
   pub finds_nodes : FindsNodes (matches_of cluster_app words) options.nodes
   pub finds : FindsDomain (matches_of cluster_app words) options.domain
   pub finds_port : FindsPort (matches_of cluster_app words) MOST_GROUP_PORT options.port
+  pub finds_epoch_places : FindsEpochPlaces (matches_of cluster_app words) options.epoch_places
 
 -- `send` is the first word, its command accepts the words, and the group, the port, the hosts and the key are those
 -- that it finds there.

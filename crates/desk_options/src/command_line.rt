@@ -1,22 +1,24 @@
 //! The command line, as `clap` reads it.
 
-ghost use Rattle.std.specs.Prelude.{◌≡◌, ◌∷◌, [], ℕ, List, false, Some, IfOk, IfErr, codes, map, slice_get};
+ghost use Rattle.std.specs.Prelude.{◌≡◌, ◌≤◌, ◌∷◌, [], ℕ, List, false, Some, IfOk, IfErr, codes, map, slice_get};
 ghost use Rattle.clap.specs.Matches.{found_of};
 ghost use Rattle.clap.specs.Simple.{app_of, new_app};
 ghost use Rattle.clap.specs.Values.{kind_of};
 ghost use Rattle.clap.specs.Walk.{rows_of, rule_of};
 ghost use Rattle.std.specs.Str.{str_to_ascii_lowercase};
 ghost use Rattle.desk_types.specs.Identifier.{IsDomain};
+ghost use Rattle.desk_types.specs.declared.limits.TheConstants.{LAST_NUMBER};
 ghost use Rattle.desk_options.specs.CommandLine.{domain_rule, nodes_rule, replay_app, world_app};
 ghost use Rattle.desk_options.specs.Commands.{AddsRule, AddsRules, ReadsWords};
 ghost use Rattle.desk_options.specs.CommandLine.{FindsDomain, SpellsNodes, FindsNodes, AsksFor, AskForNothing};
-ghost use Rattle.desk_options.specs.CommandLine.{OnRefused};
+ghost use Rattle.desk_options.specs.CommandLine.{OnRefused, SpellsUpTo};
 ghost use Rattle.desk_options.specs.Faults.{IsRefusalBy};
 ghost use Rattle.desk_options.specs.declared.command_line.OptionsFault.TheVariants as faults;
 
 mod answer;
 mod choice;
 mod cluster;
+mod epochs;
 mod log;
 mod network;
 mod page;
@@ -315,6 +317,23 @@ fn nodes_of(alloc: Global, text: &str) -> Result<u8, OptionsFault>
     }
 }
 
+/// The number that a text spells, from 1 to the greatest that may be given, or a refusal by this line.
+pub(crate) fn number_of(
+    alloc: Global,
+    text: &str,
+    greatest: u64,
+    fault: &str,
+) -> Result<u64, OptionsFault>
+    requires { greatest ≤ LAST_NUMBER }
+    ensures found { IfOk result (λ number. SpellsUpTo text.now greatest number) }
+    ensures refused { IfErr result (λ f. OnRefused f ((number : ℕ) → SpellsUpTo text.now greatest number → ⊥)) }
+{
+    match text.parse::<i64>() {
+        Ok(number) if 1 <= number && number <= greatest as i64 => Ok(number as u64),
+        _ => Err(OptionsFault::refused(alloc, fault)),
+    }
+}
+
 /// The number of nodes that was given.
 fn nodes_found(alloc: Global, matches: &ArgMatches<'_>) -> Result<u8, OptionsFault>
     ensures found { IfOk result (FindsNodes (rows_of (found_of matches.now))) }
@@ -353,9 +372,9 @@ fn world_options(alloc: Global, words: &[&str]) -> Result<Options, OptionsFault>
 
 /// What the words after the program's name ask for. They are refused, with a text for the standard error, where they
 /// begin neither with a subcommand nor with `--version` or `-V`, where `clap` refuses the words of that subcommand (a
-/// call for help among them, and a port, seconds or a place out of range), where the value of `--nodes` is neither 3
-/// nor 5, where that of `--node` is not below it, and where that of `--domain` is no domain. `send` is refused
-/// `--seconds` without `--nodes`, and with it a port that is no group's.
+/// call for help among them, and a number out of its range: a port, seconds, a place, places of an epoch), where the
+/// value of `--nodes` is neither 3 nor 5, where that of `--node` is not below it, and where that of `--domain` is no
+/// domain. `send` is refused `--seconds` without `--nodes`, and with it a port that is no group's.
 pub fn options(alloc: Global, words: &[&str]) -> Result<Options, OptionsFault>
     ensures asked { IfOk result (AsksFor (map (λ s. s.now) words.now)) }
     // Words are refused only where they ask for nothing.

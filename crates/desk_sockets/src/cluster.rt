@@ -2,6 +2,7 @@
 
 ghost use Rattle.std.specs.Prelude.{◌≤◌};
 ghost use Rattle.desk_types.specs.Group.{IsGroup};
+ghost use Rattle.desk_options.specs.Host.{FitsEpoch};
 ghost use Rattle.desk_output.specs.declared.telling.TheConstants.{FAILED};
 
 use crate::faults::served_status;
@@ -32,13 +33,15 @@ pub fn run_group<
 >(host: &HostRuntime, rt: &R, options: ClusterOptions) -> u8
 where
     R::Reader: Send,
-    requires { IsGroup options.nodes }
+    requires group { IsGroup options.nodes }
+    requires places { FitsEpoch options.epoch_places }
     ensures status { result ≤ FAILED }
 {
+    let places = options.epoch_places;
     let setup = match open_group(host, options) {
         Ok(setup) => setup,
         Err(status) => return status,
     };
-    let outcome = serve_group(rt, host.alloc(), &mut host.stdout(), setup);
+    let outcome = serve_group(rt, host.alloc(), &mut host.stdout(), setup, places);
     served_status(&mut host.stderr(), &outcome)
 }

@@ -28,6 +28,7 @@ pub fn open_group(rt: &HostRuntime, options: ClusterOptions) -> Result<GroupSetu
         nodes,
         domain,
         port,
+        ..
     } = options;
     match bind_group(rt, rt.alloc(), port, nodes) {
         Ok(ports) => Ok(GroupSetup {

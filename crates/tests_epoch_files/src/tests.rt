@@ -1,6 +1,7 @@
 //! Worked examples of the files of node 0 of three, in which an epoch ends after four entries.
 
 mod databases;
+mod ends;
 mod faults;
 mod files;
 mod memory;

@@ -92,6 +92,10 @@ pub struct ServeOptions {
     pub client_key: Option<String>,
     /// Whether the node tells its changes.
     pub log: bool,
+    /// Whether a first file that is full gets a second one, where it has none.
+    pub next: bool,
+    /// How many places an epoch has, in entries, from 1 to 65,536.
+    pub epoch_places: u64,
 }
 
 /// The options of a group of nodes on the network of one host.
@@ -103,6 +107,8 @@ pub struct ClusterOptions {
     pub domain: Domain,
     /// The first port of the group.
     pub port: u16,
+    /// How many places an epoch has, in entries, from 1 to 65,536.
+    pub epoch_places: u64,
 }
 
 /// The options of documents that are sent to nodes.

@@ -4,11 +4,13 @@ ghost use Rattle.std.specs.Prelude.{◌≡◌, ◌∷◌, [], ℕ, Some, false, 
 ghost use Rattle.clap.specs.Matches.{found_of};
 ghost use Rattle.clap.specs.Simple.{app_of};
 ghost use Rattle.clap.specs.Walk.{rows_of, rule_of};
-ghost use Rattle.desk_options.specs.CommandLine.{AsksFor, AskForNothing, OnRefused, SpellsPlace, FindsFrom};
+ghost use Rattle.desk_options.specs.CommandLine.{AsksFor, AskForNothing, OnRefused, FindsFrom};
 ghost use Rattle.desk_options.specs.CommandLine.{file_rule, from_rule, log_app};
 
 use super::answer::file_found;
-use super::{HelpTexts, LogOptions, Options, OptionsFault, read_words, subcommand, with_argument};
+use super::{
+    HelpTexts, LogOptions, Options, OptionsFault, number_of, read_words, subcommand, with_argument,
+};
 use clap::builder::ValueParser;
 use clap::{Arg, ArgMatches, Command};
 use desk_types::limits::LAST_PLACE;
@@ -52,25 +54,15 @@ Example: desk log --file node-0.db --from 1000",
     with_argument(filed, from_argument(alloc))
 }
 
-/// The place that a text spells.
-fn place_of(alloc: Global, text: &str) -> Result<u64, OptionsFault>
-    ensures found { IfOk result (λ place. SpellsPlace text.now place) }
-    ensures refused { IfErr result (λ f. OnRefused f ((place : ℕ) → SpellsPlace text.now place → ⊥)) }
-{
-    match text.parse::<i64>() {
-        Ok(place) if 1 <= place && place <= LAST_PLACE as i64 => Ok(place as u64),
-        _ => Err(OptionsFault::refused(alloc, "desk: from must be 1 to 999999999999\n")),
-    }
-}
-
 /// The place that was given, or else the first.
 fn from_found(alloc: Global, matches: &ArgMatches<'_>) -> Result<u64, OptionsFault>
     ensures found { IfOk result (FindsFrom (rows_of (found_of matches.now))) }
     ensures refused { IfErr result (λ f. OnRefused f
         ((place : ℕ) → FindsFrom (rows_of (found_of matches.now)) place → ⊥)) }
 {
+    let fault = "desk: from must be 1 to 999999999999\n";
     match matches.get_str("from") {
-        Some(text) => place_of(alloc, text),
+        Some(text) => number_of(alloc, text, LAST_PLACE, fault),
         None => Ok(1),
     }
 }

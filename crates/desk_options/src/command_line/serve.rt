@@ -4,10 +4,11 @@ ghost use Rattle.std.specs.Prelude.{◌≡◌, false, Some, IfOk, IfErr, codes, 
 ghost use Rattle.clap.specs.Matches.{found_of};
 ghost use Rattle.clap.specs.Simple.{app_of};
 ghost use Rattle.clap.specs.Walk.{rows_of, rule_of};
-ghost use Rattle.desk_options.specs.CommandLine.{log_rule, FindsFlag};
+ghost use Rattle.desk_options.specs.CommandLine.{flag_rule, FindsFlag};
 ghost use Rattle.desk_options.specs.CommandLine.{serve_app, AsksFor, AskForNothing, OnRefused};
 
 use super::answer::{file_argument, file_found, node_argument, owner_found};
+use super::epochs::{epoch_places_found, with_epochs};
 use super::network::{session_key_found, text_found, with_hosts};
 use super::port::{MOST_GROUP_PORT, port_found, with_network_group};
 use super::{
@@ -16,15 +17,15 @@ use super::{
 use clap::{Arg, ArgAction, ArgMatches, Command};
 use std::alloc::{AllocError, Global};
 
-/// `--log`, which has no value.
-fn log_argument<'a>(alloc: Global) -> Arg<'a>
-    ensures rule { rule_of result ≡ log_rule }
+/// An option of this name that has no value and may be left out, with what help says of it.
+pub(crate) fn flag_argument<'a>(alloc: Global, name: &'a str, help: &'a str) -> Arg<'a>
+    ensures rule { rule_of result ≡ flag_rule name.now }
     ensures local { result.global ≡ false }
 {
-    Arg::new(alloc, "log")
-        .long("log")
+    Arg::new(alloc, name)
+        .long(name)
         .action(ArgAction::SetTrue)
-        .help("Tells each change of the node in a line of JSON on standard error")
+        .help(help)
 }
 
 /// Whether a flag was given.
@@ -43,14 +44,16 @@ pub(crate) fn serve_command<'a>(alloc: Global) -> Result<Command<'a>, AllocError
         about: "Runs one node of a group on the network of this host, with its state in a file",
         after_help: "\
 Node I takes the other nodes at port PORT + I, and sessions at port PORT + 10 + I, on 127.0.0.1 or the
-I-th of --hosts, which wants a key where it is no loopback. It ends with its standard input.
+I-th of --hosts, which wants a key where it is no loopback. It ends with its standard input. Where the log of FILE
+is full, it goes on in FILE.1, then in FILE.2 and so on.
 
 Example: desk serve --node 0 --nodes 3 --domain desk.example --port 4000 --file node-0.db",
     };
     let command = with_argument(subcommand(alloc, "serve", texts), node_argument(alloc));
     let filed = with_argument(with_network_group(alloc, command), file_argument(alloc));
-    let logged = with_argument(filed, log_argument(alloc));
-    with_hosts(alloc, logged)
+    let help = "Tells each change of the node in a line of JSON on standard error";
+    let logged = with_argument(filed, flag_argument(alloc, "log", help));
+    with_hosts(alloc, with_epochs(alloc, logged))
 }
 
 /// `serve` asks for a node of a group, a first port, and the file of the node's state.
@@ -67,6 +70,8 @@ pub(crate) fn serve_options(alloc: Global, words: &[&str]) -> Result<Options, Op
     let key = text_found(alloc, &matches, "key")?;
     let client_key = session_key_found(alloc, &matches)?;
     let log = flag_found(&matches, "log");
+    let next = flag_found(&matches, "next");
+    let epoch_places = epoch_places_found(alloc, &matches)?;
     Ok(Options::Serve(ServeOptions {
         owner,
         port,
@@ -75,5 +80,7 @@ pub(crate) fn serve_options(alloc: Global, words: &[&str]) -> Result<Options, Op
         key,
         client_key,
         log,
+        next,
+        epoch_places,
     }))
 }

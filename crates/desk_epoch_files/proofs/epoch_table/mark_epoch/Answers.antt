@@ -1,6 +1,6 @@
 use Rattle.std.proofs.Common.{rules, ◌≡◌, Some, subst}
 use Rattle.std.specs.Prelude.{MatchOption}
-use Rattle.desk_epoch_files.specs.EpochTable.{ShowsEpoch, HasNoEpochTable}
+use Rattle.desk_file.specs.EpochTable.{ShowsEpoch, HasNoEpochTable}
 use Rattle.desk_epoch_files.proofs.epoch_table.mark_epoch.Goals as goal
 
 pub returns-in-Ok-Some-clause-marked : goal.returns-in-Ok-Some-clause-marked

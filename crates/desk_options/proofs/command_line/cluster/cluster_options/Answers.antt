@@ -31,6 +31,15 @@ returns-in_err-port-clause-refused c =
     rw (p.1, p.2) (on_refused _ (λ none. no_cluster _ c.requires
     (λ options asks. none options.port (rw read.1 asks.finds_port))) c.in_err-port.ensures.refused)
 
+pub returns-in_err-epoch_places-clause-refused : goal.returns-in_err-epoch_places-clause-refused
+returns-in_err-epoch_places-clause-refused c =
+    let p = err_from_is_err_and c.from_residual-in_err-epoch_places.result
+    c.from_residual-in_err-epoch_places.ensures.1 in
+    let read = c.in_ok-matches.ensures cluster_app cluster_is_simple c.cluster_command.ensures in
+    rw (p.1, p.2) (on_refused _ (λ none. no_cluster _ c.requires
+    (λ options asks. none options.epoch_places (rw read.1 asks.finds_epoch_places)))
+    c.in_err-epoch_places.ensures.refused)
+
 pub returns-clause-asked : goal.returns-clause-asked
 returns-clause-asked c =
     let read = c.in_ok-matches.ensures cluster_app cluster_is_simple c.cluster_command.ensures in
@@ -40,4 +49,5 @@ returns-clause-asked c =
       finds_nodes = rw (← read.1) c.in_ok-nodes.ensures.found;
       finds = rw (← read.1) c.in_ok-domain.ensures.found;
       finds_port = rw (← read.1) c.in_ok-port.ensures.found;
+      finds_epoch_places = rw (← read.1) c.in_ok-epoch_places.ensures.found;
     }

@@ -9,15 +9,15 @@ use Rattle.desk_options.proofs.command_line.log.from_found.Goals as goal
 pub returns-in-Some-clause-found : goal.returns-in-Some-clause-found
 returns-in-Some-clause-found c =
     let given = sym (first_value-rows (found_of c.args.matches.now) (codes "from")) ∙ sym c.in-Some.ensures in
-    IfOk-weaker c.place_of.result _ _ (λ n h. from_in (rows_of (found_of c.args.matches.now)) _ n given h)
-    c.place_of.ensures.found
+    IfOk-weaker c.number_of.result _ _ (λ n h. from_in (rows_of (found_of c.args.matches.now)) _ n given h)
+    c.number_of.ensures.found
 
 pub returns-in-Some-clause-refused : goal.returns-in-Some-clause-refused
 returns-in-Some-clause-refused c =
     let given = sym (first_value-rows (found_of c.args.matches.now) (codes "from")) ∙ sym c.in-Some.ensures in
-    IfErr-weaker c.place_of.result _ _
+    IfErr-weaker c.number_of.result _ _
     (λ f h. on_refused f (no_from_in (rows_of (found_of c.args.matches.now)) _ given) h)
-    c.place_of.ensures.refused
+    c.number_of.ensures.refused
 
 pub returns-in-None-clause-found : goal.returns-in-None-clause-found
 returns-in-None-clause-found c =
