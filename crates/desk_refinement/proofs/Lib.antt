@@ -1,3 +1,4 @@
 pub mod Queued
 pub mod NodeGroups
 pub mod SavedStops
+pub mod EpochNodeGroups

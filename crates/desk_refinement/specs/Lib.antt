@@ -1,3 +1,5 @@
 pub mod Nodes
 pub mod Groups
 pub mod Stops
+pub mod EpochNodes
+pub mod EpochGroups
