@@ -6,7 +6,7 @@ import sqlite3
 
 from command_bytes import entry_of, prepare, start_view
 from desk_clients import SECONDS
-from desk_nodes import answer, copy_of, same
+from desk_nodes import answer, clear, copy_of, same
 
 ROOT = os.path.join(os.path.dirname(os.path.realpath(__file__)), '..', '..')
 
@@ -48,11 +48,6 @@ def frames_of(name):
     return frames
 
 
-def clear(file):
-    for name in glob.glob(f'{file}*'):
-        os.remove(name)
-
-
 def begin(base, file):
     """Leaves the file as the example finds it."""
     clear(file)
@@ -76,7 +71,6 @@ def rows_in(base):
 
 def state_of(file, room):
     """The rows that SQLite finds in a copy of the file and its log; nothing where there are no tables yet."""
-    clear(f'{room}/copy')
     base = sqlite3.connect(copy_of(file, room))
     try:
         return rows_in(base)

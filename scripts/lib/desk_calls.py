@@ -4,7 +4,8 @@ import bisect
 import json
 import re
 
-from desk_nodes import SESSION_PORTS
+from desk_nodes import SESSION_PORTS, epoch_file
+from desk_replies import LOG_ENTRIES
 
 LOG_END = '-wal'
 CALLS = 'pwrite64,pwritev,write,writev,ftruncate,fdatasync,fsync,sendto,sendmsg,recvfrom,recvmsg'
@@ -14,6 +15,8 @@ DONE = re.compile(r'^(.*)\) += (\d+)')
 WORDS = re.compile(r'^\d+<(TCP:\[[^\]]*\]|[^>]*)>(?:, "([^"]*)")?.*?(?:, (\d+))?$')
 TCP = re.compile(r'^TCP:\[[\d.]+:(\d+)->[\d.]+:(\d+)\]$')
 PREPARE, PREPARE_OK, COMMIT = 1, 2, 3
+# what a connection begins with that is not one of steps of epoch 0: this mark, its purpose and its epoch
+MARK, STEP, HEADER_BYTES = b'\xff\xff\xff\x03', 0, 13
 # where the place stands in a packet of these kinds, and where the commit; the body of a Prepare's command is its end
 PLACE_AT, COMMIT_AT, BODY_AT = {1: 11, 2: 11}, {1: 19, 3: 11, 5: 19, 6: 11, 8: 19}, 45
 
@@ -83,7 +86,29 @@ def cut(calls, end_of):
 
 
 def end_of_frame(data, start):
+    """The end of a frame, or of a header."""
+    if data[start:start + 4] == MARK:
+        return start + HEADER_BYTES
     return start + 4 + int.from_bytes(data[start:start + 4], 'big') if start + 4 <= len(data) else None
+
+
+class Packet(bytes):
+    """A packet, and how many places lie before those of its epoch."""
+
+    base = 0
+
+
+def steps_of(calls, places):
+    """The packets of a connection that are steps, where an epoch has so many places, and the calls of the first and the
+    last byte of each."""
+    epoch, purpose = 0, STEP
+    for piece, *ends in cut(calls, end_of_frame):
+        if piece[:4] == MARK:
+            purpose, epoch = piece[4], int.from_bytes(piece[5:], 'big')
+        elif purpose == STEP:
+            packet = Packet(piece[4:])
+            packet.base = epoch * places
+            yield packet, *ends
 
 
 def end_of_line(data, start):
@@ -92,22 +117,23 @@ def end_of_line(data, start):
 
 
 def number_at(packet, places):
-    """The number of a packet whose place in it is told by the packet's kind, or nothing."""
+    """The number of a packet whose place in it is told by the packet's kind, counted over all epochs, or nothing."""
     at = places.get(packet[1])
-    return None if at is None else int.from_bytes(packet[at:at + 8], 'big')
+    return None if at is None else packet.base + int.from_bytes(packet[at:at + 8], 'big')
 
 
 class Node:
-    """What a node of a group did, by its calls: when its log was synced, what it heard of others and what it told."""
+    """What a node of a group did, by its calls: when its logs were synced, what it heard of others and what it told. An
+    epoch has so many places."""
 
-    def __init__(self, calls, first, node, n=3):
-        self.log = [it for it in calls if it.at.endswith(LOG_END)]
+    def __init__(self, calls, first, node, file, n=3, places=LOG_ENTRIES):
+        self.file, self.places = file, places
+        self.log = [it for it in calls if it.at.startswith(file) and it.at.endswith(LOG_END)]
         self.writes = [it for it in self.log if it.name.startswith(('pwrite', 'write'))]
         self.syncs = [it for it in self.log if it.name in ('fdatasync', 'fsync')]
         sends = [it for it in calls if it.ports and it.name in ('sendto', 'sendmsg', 'write', 'writev')]
         reads = [it for it in calls if it.ports and it.name in ('recvfrom', 'recvmsg')]
-        packets = lambda calls: [(it[4:], *ends) for stream in streams(calls)
-                                 for it, *ends in cut(stream, end_of_frame)]
+        packets = lambda calls: [it for stream in streams(calls) for it in steps_of(stream, places)]
         self.sent = [(it, call) for it, call, _ in
                      packets([it for it in sends if first <= it.ports[1] < first + n])]
         self.heard = [(it, call) for it, _, call in packets([it for it in reads if it.ports[0] == first + node])]
@@ -116,15 +142,19 @@ class Node:
                         for it, call, _ in cut(stream, end_of_line)]
         self.found = {}
 
-    def sync_after(self, line):
-        """The first sync that began after a line of the trace."""
-        return next((it for it in self.syncs if it.began > line), None)
+    def sync_after(self, line, log):
+        """The first sync of a log that began after a line of the trace."""
+        return next((it for it in self.syncs if it.at == log and it.began > line), None)
+
+    def log_of(self, place):
+        """The log beside the file of a place's epoch."""
+        return epoch_file(self.file, (place - 1) // self.places) + LOG_END
 
     def save_of_body(self, body):
         """The first sync behind a write of an entry with this body."""
         if body not in self.found:
             write = next((it for it in self.writes if body in it.data), None)
-            self.found[body] = write and self.sync_after(write.ended)
+            self.found[body] = write and self.sync_after(write.ended, write.at)
         return self.found[body]
 
     def save_of_commit(self, place):
@@ -134,7 +164,7 @@ class Node:
             knows = lambda it: place <= max(number_at(it, COMMIT_AT) or 0,
                                             (number_at(it, PLACE_AT) or 0) * (it[1] == PREPARE_OK))
             ended = min((call.ended for it, call in self.heard if knows(it)), default=None)
-            self.found[place] = None if ended is None else self.sync_after(ended)
+            self.found[place] = None if ended is None else self.sync_after(ended, self.log_of(place))
         return self.found[place]
 
     def heard_bodies(self, place):

@@ -36,8 +36,9 @@ class Filler:
 PAGES = [4096, 1024]
 
 
-def make_file(file, node, n, commands, version=2, page=PAGES[0]):
-    """A file of a node whose log has these commands, all of them committed, in view 0. Its pages have so many bytes."""
+def make_file(file, node, n, commands, version=2, page=PAGES[0], epoch=0):
+    """A file of a node whose log has these commands, all of them committed, in view 0. Its pages have so many bytes.
+    That of a later epoch than the first bears its number."""
     base = sqlite3.connect(file)
     base.execute(f'PRAGMA page_size = {page}')
     base.executescript(TABLES)
@@ -49,6 +50,9 @@ def make_file(file, node, n, commands, version=2, page=PAGES[0]):
         latest = {it['session']: (it['session'], it['number'], place) for place, it in enumerate(commands, 1)}
         base.execute(CLIENTS)
         base.executemany('INSERT INTO client VALUES (?, ?, ?)', latest.values())
+    if epoch:
+        base.execute('CREATE TABLE epoch (number INTEGER PRIMARY KEY)')
+        base.execute('INSERT INTO epoch VALUES (?)', [epoch])
     base.commit()
     base.close()
 

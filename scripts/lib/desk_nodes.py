@@ -1,7 +1,10 @@
 """Processes of the built program, and sessions with them: what the scripts share that run nodes. All that is sent goes
 to ports of this host's loopback."""
+import glob
+import itertools
 import os
 import random
+import re
 import resource
 import shutil
 import signal
@@ -145,8 +148,8 @@ def end_by_signals():
         signal.signal(number, lambda *_: sys.exit(1))
 
 
-def cluster(first, nodes=3, more=()):
-    return Program('cluster', '--nodes', nodes, '--domain', DOMAIN, '--port', first, more=more)
+def cluster(first, nodes=3, more=(), words=()):
+    return Program('cluster', '--nodes', nodes, '--domain', DOMAIN, '--port', first, *words, more=more)
 
 
 def serve(first, node, file, nodes=3, size=None, more=(), before=(), words=()):
@@ -159,17 +162,50 @@ def file_of(room, node):
     return f'{room}/node-{node}.db'
 
 
+def epoch_file(file, epoch):
+    """The file of an epoch of the node whose first one has this name."""
+    return f'{file}.{epoch}' if epoch else file
+
+
+def epoch_files(file):
+    """The files of the node whose first one has this name: one for each epoch, up to one that is not there."""
+    return list(itertools.takewhile(os.path.exists, (epoch_file(file, it) for it in itertools.count())))
+
+
+def clear(file):
+    """Removes a file, and all whose names begin with its name."""
+    for name in glob.glob(f'{glob.escape(file)}*'):
+        os.remove(name)
+
+
 def copy_of(file, room):
-    """A copy of a node's file in a folder, beside one of its log where it has one."""
-    for end in ('', '-wal'):
-        if os.path.exists(file + end):
-            shutil.copy(file + end, f'{room}/copy{end}')
-    return f'{room}/copy'
+    """A copy of a node's files in a folder, each beside one of its log where it has one."""
+    copy = f'{room}/copy'
+    clear(copy)
+    for epoch, each in enumerate(epoch_files(file)):
+        for end in ('', '-wal'):
+            if os.path.exists(each + end):
+                shutil.copy(each + end, epoch_file(copy, epoch) + end)
+    return copy
 
 
-def serve_group(room, first):
+# what a node tells of a fault of its store, and what it says of the file
+STORE_FAULT = 'desk: 41 StoreFault\n'
+CLOSED, UNWRITTEN = 'can not be opened or made', \
+    'can not be read or written, or a view, an index or a foreign key in it names node, entry or client'
+UNMARKED = 'can not be read or written, or has another table epoch'
+
+
+def is_store_fault(ended, file):
+    """Whether a node ended by a fault of one of its files, the first of which has this name."""
+    status, told = ended
+    why = '|'.join((CLOSED, UNWRITTEN, UNMARKED))
+    return status == 1 and bool(re.fullmatch(rf'{STORE_FAULT}desk: {re.escape(file)}(\.\d+)? ({why})\n', told))
+
+
+def serve_group(room, first, words=()):
     """Starts the three nodes of a group, and does not wait until they are ready."""
-    return [serve(first, node, file_of(room, node)) for node in range(3)]
+    return [serve(first, node, file_of(room, node), words=words) for node in range(3)]
 
 
 def answer(file, data, before=(), size=None, node=1):

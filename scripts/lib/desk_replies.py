@@ -6,34 +6,76 @@ import sqlite3
 from board_model import Board
 from command_bytes import body_of
 from desk_clients import SECONDS, STALE, SUPERSEDED
-from desk_nodes import DOMAIN
+from desk_nodes import DOMAIN, epoch_files
 
-LOG_ENTRIES, FULL = 65536, 33
+LOG_ENTRIES = 65536
+# the tables of a node's state; a file of a later epoch has its mark beside them
+TABLES, MARK = {'node', 'entry', 'client'}, 'epoch'
 
 
-def rows_of(file):
-    """The committed entries that a node's file holds, as client, number and body."""
+def told_of(file, *statements):
+    """What SQLite finds in a file by each of these statements."""
     base = sqlite3.connect(file)
-    commit = base.execute('SELECT commit_no FROM node').fetchone()[0]
-    rows = base.execute('SELECT client, number, body FROM entry ORDER BY place').fetchall()
-    base.close()
+    try:
+        return [base.execute(it).fetchall() for it in statements]
+    finally:
+        base.close()
+
+
+def is_made(file):
+    """Whether a file is a database. A new one is none before its first page is whole, whose first byte is written
+    last."""
+    try:
+        told_of(file, 'SELECT 1 FROM sqlite_schema')
+    except sqlite3.DatabaseError:
+        with open(file, 'rb') as it:
+            if it.read(1) == b'\0':
+                return False
+        raise
+    return True
+
+
+def tables_of(file):
+    """The tables of a file, none where it was not made."""
+    names = "SELECT name FROM sqlite_schema WHERE type = 'table'"
+    return {name for name, in told_of(file, names)[0]} if is_made(file) else set()
+
+
+def rows_of_epoch(file):
+    """The committed entries that a file of one epoch holds, as client, number and body; none where it was not made to
+    its end."""
+    if 'node' not in tables_of(file):
+        return []
+    [[(commit,)], rows] = told_of(file, 'SELECT commit_no FROM node',
+                                  'SELECT client, number, body FROM entry ORDER BY place')
     return rows[:commit]
 
 
+def rows_of(file):
+    """The committed entries that the files of a node hold: those of all its epochs."""
+    return [row for each in epoch_files(file) for row in rows_of_epoch(each)]
+
+
+def is_filled(file, places):
+    """Whether each epoch of a node has so many committed entries, but for the last one that has begun, and a file for
+    the next one is there."""
+    counts = [len(rows_of_epoch(it)) for it in epoch_files(file)]
+    past, rest = divmod(sum(counts), places)
+    wanted = [places] * past + [rest]
+    return counts == wanted + [0] * (len(counts) - len(wanted)) and (len(counts) > len(wanted) or rest == 0)
+
+
 def is_sound(file):
-    """Whether SQLite finds nothing wrong in a file."""
-    base = sqlite3.connect(file)
-    told = base.execute('PRAGMA integrity_check').fetchall()
-    base.close()
-    return told == [('ok',)]
+    """Whether SQLite finds nothing wrong in a node's files, as far as they are made."""
+    return all(told_of(it, 'PRAGMA integrity_check') == [[('ok',)]] for it in epoch_files(file) if is_made(it))
 
 
 def is_whole(file):
-    """Whether SQLite finds nothing wrong in a node's file, which is of version 2."""
-    base = sqlite3.connect(file)
-    version = base.execute('SELECT version FROM node').fetchall()
-    base.close()
-    return is_sound(file) and version == [(2,)]
+    """Whether SQLite finds nothing wrong in a node's files, which are of version 2, each of its epoch."""
+    def is_of(epoch, file):
+        marked = [[(epoch,)]] == told_of(file, f'SELECT number FROM {MARK}') if epoch else MARK not in tables_of(file)
+        return marked and TABLES <= tables_of(file) and told_of(file, 'SELECT version FROM node') == [[(2,)]]
+    return is_sound(file) and all(is_of(*it) for it in enumerate(epoch_files(file)))
 
 
 def agree(logs):
@@ -90,13 +132,11 @@ class Comparison:
         self.wrong += [f'shows at {place}, which is past the committed log' for place in self.shows]
 
     def allows(self, client, number, reply):
-        """Whether the client may be told this: the reply of the committed command; that the log is full, where it is;
-        and where two share a session that a greater number of theirs was there first."""
+        """Whether the client may be told this: the reply of the committed command; and where two share a session, that
+        a greater number of theirs was there first."""
         session, told = client.drawer.session, json.loads(reply)
         if reply == self.replies.get((session, number)):
             return True
-        if told.get('refusal') == FULL:
-            return len(self.committed) == LOG_ENTRIES
         if not client.shares:
             return False
         if told.get('refusal') == STALE:

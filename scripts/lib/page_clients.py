@@ -143,10 +143,11 @@ def posted(listen, line):
 
 
 class PagedGroup:
-    """Three nodes over files in a folder, and the page's server over them, where it is wanted at once."""
+    """Three nodes over files in a folder, with these words, and the page's server over them, where it is wanted at
+    once."""
 
-    def __init__(self, room, serves_page=True):
-        self.room, self.first, self.probes, self.server = room, first_port(), 0, None
+    def __init__(self, room, serves_page=True, words=()):
+        self.room, self.first, self.probes, self.server, self.words = room, first_port(), 0, None, words
         self.nodes = self.start_nodes(room)
         for node in self.nodes:
             same(node.is_ready(), True, 'ready')
@@ -155,7 +156,7 @@ class PagedGroup:
             self.start_page()
 
     def start_nodes(self, room):
-        return serve_group(room, self.first)
+        return serve_group(room, self.first, self.words)
 
     def start_page(self, *words, more=()):
         self.server = Program('page', '--port', self.first, '--nodes', 3, '--listen', self.listen, *words, more=more)

@@ -4,12 +4,11 @@ import os
 import struct
 import subprocess
 
+from desk_nodes import STORE_FAULT, is_store_fault
+
 REFUSE = os.path.join(os.path.dirname(os.path.realpath(__file__)), '..', 'faults', 'refuse.c')
 
-WANT, STORE = 'desk: 40 WantOfMemory\n', 'desk: 41 StoreFault\n'
-# what may follow 41: the store does not tell want of memory from another fault
-WHY = ['can not be opened or made',
-       'can not be read or written, or a view, an index or a foreign key in it names node, entry or client']
+WANT = 'desk: 40 WantOfMemory\n'
 
 
 class Steering:
@@ -47,5 +46,6 @@ def build_library(room):
 
 
 def is_fault(ended, file):
-    """Whether a program ended as one may that was refused memory."""
-    return ended in [(1, WANT)] + [(1, f'{STORE}desk: {file} {why}\n') for why in WHY]
+    """Whether a program ended as one may that was refused memory: its store does not tell that from another fault, and
+    its file has no line where the memory for that file's name was refused too."""
+    return tuple(ended) in ((1, WANT), (1, STORE_FAULT)) or is_store_fault(ended, file)

@@ -17,8 +17,8 @@ ALERT = "(({ hidden, textContent }) => !hidden && textContent)(document.getEleme
 class ShownGroup(PagedGroup):
     """A group with its page, and a tab of a browser that shows it."""
 
-    def __init__(self, room, browser):
-        super().__init__(room)
+    def __init__(self, room, browser, words=()):
+        super().__init__(room, words=words)
         self.browser = browser
         self.tab = self.open()
 
