@@ -28,6 +28,7 @@ verb_word (commands.SetStatus at unit status) = codes "status"
 verb_word (commands.Release at unit) = codes "release"
 verb_word (commands.StandBy at unit incident) = codes "stand_by"
 verb_word (commands.StandDown at unit) = codes "stand_down"
+verb_word (commands.Replace at node token) = codes "replace"
 
 -- the instant of a command, in whole seconds since 1970
 abbrev pub instant : Command → ℤ
@@ -47,6 +48,7 @@ instant (commands.SetStatus at unit status) = at
 instant (commands.Release at unit) = at
 instant (commands.StandBy at unit incident) = at
 instant (commands.StandDown at unit) = at
+instant (commands.Replace at node token) = at
 
 -- the members under these two names
 abbrev pub two_texts : List ℕ → List ℕ → List ℕ → List ℕ → List ReplyMember
@@ -62,6 +64,10 @@ opened_members kind site incident call =
 abbrev pub split_members : List ℕ → List ℕ → List ℕ → List ℕ → List ReplyMember
 split_members incident call kind site =
     (codes "incident", text incident) ∷ (codes "call", text call) ∷ two_texts (codes "kind") kind (codes "where") site
+
+-- the members that tell of a replacement
+abbrev pub replacement_members : ℕ → ℕ → List ReplyMember
+replacement_members node token = (codes "node", count node) ∷ (codes "token", count token) ∷ []
 
 -- the members that a command has beside its verb and its instant
 abbrev pub verb_members : Command → List ReplyMember
@@ -82,6 +88,7 @@ verb_members (commands.SetStatus at unit status) =
 verb_members (commands.Release at unit) = (codes "unit", text unit) ∷ []
 verb_members (commands.StandBy at unit incident) = two_texts (codes "unit") unit (codes "incident") incident
 verb_members (commands.StandDown at unit) = (codes "unit", text unit) ∷ []
+verb_members (commands.Replace at node token) = replacement_members node token
 
 -- the members that the document of every entry has, with this text for its instant
 abbrev pub head_members : List ℕ → Entry → List ReplyMember

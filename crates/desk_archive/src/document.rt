@@ -5,12 +5,14 @@ ghost use Rattle.jiff_core.specs.Timestamp.{IsTimestampNanos};
 ghost use Rattle.desk_types.specs.declared.refusal.Refusal.TheVariants as refusals;
 ghost use Rattle.desk_eido.specs.ReplyLine.{status_text};
 ghost use Rattle.desk_eido.specs.Writing.{with_all};
-ghost use Rattle.desk_archive.specs.Document.{verb_word, two_texts, opened_members, split_members, verb_members};
+ghost use Rattle.desk_archive.specs.Document.{verb_word, two_texts, opened_members, split_members};
+ghost use Rattle.desk_archive.specs.Document.{replacement_members, verb_members};
 ghost use Rattle.desk_archive.specs.Document.{head_members, instant, nanoseconds, line_with, IsLineOf};
 
 use crate::document_writer::DocumentWriter;
 use desk_types::{
-    CallId, Command, Entry, IncidentId, KindText, Refusal, SiteText, Status, WantOfMemory,
+    CallId, Command, Entry, IncidentId, KindText, NodeNumber, Refusal, SiteText, Status, Token,
+    WantOfMemory,
 };
 use jiff_core::Timestamp;
 use jiff_fmt::temporal::DateTimePrinter;
@@ -37,6 +39,7 @@ fn verb_word(command: &Command) -> &'static str
         Command::Release { .. } => "release",
         Command::StandBy { .. } => "stand_by",
         Command::StandDown { .. } => "stand_down",
+        Command::Replace { .. } => "replace",
     }
 }
 
@@ -60,7 +63,8 @@ fn instant(command: &Command) -> i64
         | Command::SetStatus { at, .. }
         | Command::Release { at, .. }
         | Command::StandBy { at, .. }
-        | Command::StandDown { at, .. } => *at,
+        | Command::StandDown { at, .. }
+        | Command::Replace { at, .. } => *at,
     }
 }
 
@@ -140,6 +144,19 @@ fn with_two(
     ensures { IfOk result (λ w. w ≡ with_all (two_texts one.now text.now other.now more.now) document) }
 {
     document.text(one, text)?.text(other, more)
+}
+
+/// With the members that tell of a replacement.
+fn with_replacement(
+    document: DocumentWriter,
+    node: NodeNumber,
+    token: Token,
+) -> Result<DocumentWriter, WantOfMemory>
+    ensures { IfOk result (λ w. w ≡ with_all (replacement_members node token) document) }
+{
+    document
+        .count("node", node.get() as u64)?
+        .count("token", token.get())
 }
 
 /// With the members that a command has beside its verb and its instant.
@@ -231,6 +248,7 @@ fn with_verb(document: DocumentWriter, command: &Command) -> Result<DocumentWrit
                 status_word(*status),
             )
         }
+        Command::Replace { node, token, .. } => with_replacement(document, *node, *token),
     }
 }
 

@@ -10,7 +10,7 @@ use Rattle.desk_types.specs.declared.limits.TheConstants.{INCIDENT_CALLS}
 use Rattle.desk_types.specs.declared.command.Command.{Command}
 use Rattle.desk_types.specs.declared.command.Command.TheVariants.{Open, AddCall, Link, Unlink, Merge, Split, Clear}
 use Rattle.desk_types.specs.declared.command.Command.TheVariants.{Reopen, Note, SignOn, SignOff, Assign, SetStatus}
-use Rattle.desk_types.specs.declared.command.Command.TheVariants.{Release, StandBy, StandDown}
+use Rattle.desk_types.specs.declared.command.Command.TheVariants.{Release, StandBy, StandDown, Replace}
 use Rattle.desk_types.specs.declared.show.IncidentState.{IncidentState}
 use Rattle.desk_types.specs.declared.show.IncidentState.TheVariants as states
 use Rattle.desk_incidents.specs.declared.incident.Incident.{Incident}
@@ -370,5 +370,14 @@ effect-consistent board place (StandDown at unit) l m h r = record {
   committed = h.committed;
   standing_by = ConsistentPairs-filter board.incidents board.standing_by (λ p. not (is_unit unit p)) h.standing_by;
   elsewhere = elsewhere-fewer board.committed_to board.standing_by (λ p. not (is_unit unit p)) h.elsewhere;
+  units = h.units;
+}
+effect-consistent board place (Replace at node token) l m h r = record {
+  incidents = later place board h;
+  calls = h.calls;
+  links = h.links;
+  committed = h.committed;
+  standing_by = h.standing_by;
+  elsewhere = h.elsewhere;
   units = h.units;
 }

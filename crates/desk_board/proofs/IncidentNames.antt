@@ -7,7 +7,7 @@ use Rattle.std.proofs.lemmas.List.{append_assoc, map-append}
 use Rattle.desk_types.specs.declared.command.Command.{Command}
 use Rattle.desk_types.specs.declared.command.Command.TheVariants.{Open, AddCall, Link, Unlink, Merge, Split, Clear}
 use Rattle.desk_types.specs.declared.command.Command.TheVariants.{Reopen, Note, SignOn, SignOff, Assign, SetStatus}
-use Rattle.desk_types.specs.declared.command.Command.TheVariants.{Release, StandBy, StandDown}
+use Rattle.desk_types.specs.declared.command.Command.TheVariants.{Release, StandBy, StandDown, Replace}
 use Rattle.desk_types.specs.declared.command.Entry.{Entry}
 use Rattle.desk_types.specs.declared.refusal.Refusal.{Refusal}
 use Rattle.desk_types.specs.declared.reply.Reply.{Reply}
@@ -83,6 +83,7 @@ effect-names board place (SetStatus at unit status) = no_names board _ place _ r
 effect-names board place (Release at unit) = no_names board _ place _ refl
 effect-names board place (StandBy at unit incident) = no_names board _ place _ refl
 effect-names board place (StandDown at unit) = no_names board _ place _ refl
+effect-names board place (Replace at node token) = no_names board _ place _ refl
 
 step_of-names : (board : BoardValue) (place : ℕ) (c : Command) (o : Option Refusal) →
     AddsNames board place (step_of place board c o).0 (step_of place board c o).1

@@ -7,7 +7,7 @@ use Rattle.desk_types.specs.Identifier.{IsLowerDomain, is_under, own_id}
 use Rattle.desk_types.specs.declared.command.Command.{Command}
 use Rattle.desk_types.specs.declared.command.Command.TheVariants.{Open, AddCall, Link, Unlink, Merge, Split, Clear}
 use Rattle.desk_types.specs.declared.command.Command.TheVariants.{Reopen, Note, SignOn, SignOff, Assign, SetStatus}
-use Rattle.desk_types.specs.declared.command.Command.TheVariants.{Release, StandBy, StandDown}
+use Rattle.desk_types.specs.declared.command.Command.TheVariants.{Release, StandBy, StandDown, Replace}
 use Rattle.desk_types.specs.declared.command.Entry.{Entry}
 use Rattle.desk_types.specs.declared.refusal.Refusal.{Refusal}
 use Rattle.desk_types.specs.declared.reply.Reply.{Reply}
@@ -44,6 +44,7 @@ effect-domain board place (SetStatus at unit status) = refl
 effect-domain board place (Release at unit) = refl
 effect-domain board place (StandBy at unit incident) = refl
 effect-domain board place (StandDown at unit) = refl
+effect-domain board place (Replace at node token) = refl
 
 pub effect-rows : (board : BoardValue) (place : ℕ) (c : Command) → (effect place board c).rows ≡ board.rows
 unfolding effect
@@ -63,6 +64,7 @@ effect-rows board place (SetStatus at unit status) = refl
 effect-rows board place (Release at unit) = refl
 effect-rows board place (StandBy at unit incident) = refl
 effect-rows board place (StandDown at unit) = refl
+effect-rows board place (Replace at node token) = refl
 
 step_of-domain : (board : BoardValue) (place : ℕ) (c : Command) (o : Option Refusal) →
     (step_of place board c o).0.domain ≡ board.domain

@@ -8,7 +8,7 @@ use Rattle.desk_types.specs.Checks.{◌or_else◌, when}
 use Rattle.desk_types.specs.declared.command.Command.{Command}
 use Rattle.desk_types.specs.declared.command.Command.TheVariants.{Open, AddCall, Link, Unlink, Merge, Split, Clear}
 use Rattle.desk_types.specs.declared.command.Command.TheVariants.{Reopen, Note, SignOn, SignOff, Assign, SetStatus}
-use Rattle.desk_types.specs.declared.command.Command.TheVariants.{Release, StandBy, StandDown}
+use Rattle.desk_types.specs.declared.command.Command.TheVariants.{Release, StandBy, StandDown, Replace}
 use Rattle.desk_types.specs.declared.command.Entry.{Entry}
 use Rattle.desk_types.specs.declared.refusal.Refusal.{Refusal}
 use Rattle.desk_types.specs.declared.refusal.Refusal.TheVariants as refusals
@@ -99,6 +99,7 @@ same_verb place board (SetStatus at unit status) h = record { check_is = refl; a
 same_verb place board (Release at unit) h = record { check_is = refl; after_is = refl; did_is = refl }
 same_verb place board (StandBy at unit incident) h = absurd (false≢true h)
 same_verb place board (StandDown at unit) h = absurd (false≢true h)
+same_verb place board (Replace at node token) h = absurd (false≢true h)
 
 -- steps
 

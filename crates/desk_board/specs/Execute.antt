@@ -5,7 +5,7 @@ use Rattle.desk_types.specs.Identifier.{own_id}
 use Rattle.desk_types.specs.declared.command.Command.{Command}
 use Rattle.desk_types.specs.declared.command.Command.TheVariants.{Open, AddCall, Link, Unlink, Merge, Split, Clear}
 use Rattle.desk_types.specs.declared.command.Command.TheVariants.{Reopen, Note, SignOn, SignOff, Assign, SetStatus}
-use Rattle.desk_types.specs.declared.command.Command.TheVariants.{Release, StandBy, StandDown}
+use Rattle.desk_types.specs.declared.command.Command.TheVariants.{Release, StandBy, StandDown, Replace}
 use Rattle.desk_types.specs.declared.command.Entry.{Entry}
 use Rattle.desk_types.specs.declared.refusal.Refusal.{Refusal}
 use Rattle.desk_types.specs.declared.reply.Done.{Done}
@@ -46,6 +46,7 @@ refusal board (SetStatus at unit status) = status_refusal unit status (units_in 
 refusal board (Release at unit) = release_refusal unit (units_in board)
 refusal board (StandBy at unit incident) = stand_by_refusal_on unit incident board
 refusal board (StandDown at unit) = stand_down_refusal unit (units_in board)
+refusal board (Replace at node token) = None
 
 -- What a command at a place does where no check fails.
 unfoldable pub effect : ℕ → BoardValue → Command → BoardValue
@@ -71,6 +72,7 @@ effect place board (SetStatus at unit status) = with_units (units_after_set_stat
 effect place board (Release at unit) = with_units (units_after_release unit (units_in board)) board
 effect place board (StandBy at unit incident) = board_after_stand_by unit incident board
 effect place board (StandDown at unit) = with_units (units_after_stand_down unit (units_in board)) board
+effect place board (Replace at node token) = board
 
 -- What a command at a place did where no check failed.
 unfoldable pub done : ℕ → BoardValue → Command → Done
@@ -90,6 +92,7 @@ done place board (SetStatus at unit status) = plain_done words.StatusSet
 done place board (Release at unit) = plain_done words.Released
 done place board (StandBy at unit incident) = plain_done words.StandingBy
 done place board (StandDown at unit) = plain_done words.StoodDown
+done place board (Replace at node token) = plain_done words.Replaced
 
 -- the reply at a place that tells what was done
 abbrev pub reply_of : ℕ → Done → Reply

@@ -8,7 +8,7 @@ use Rattle.desk_types.specs.Identifier.{own_id}
 use Rattle.desk_types.specs.declared.command.Command.{Command}
 use Rattle.desk_types.specs.declared.command.Command.TheVariants.{Open, AddCall, Link, Unlink, Merge, Split, Clear}
 use Rattle.desk_types.specs.declared.command.Command.TheVariants.{Reopen, Note, SignOn, SignOff, Assign, SetStatus}
-use Rattle.desk_types.specs.declared.command.Command.TheVariants.{Release, StandBy, StandDown}
+use Rattle.desk_types.specs.declared.command.Command.TheVariants.{Release, StandBy, StandDown, Replace}
 use Rattle.desk_types.specs.declared.command.Entry.{Entry}
 use Rattle.desk_types.specs.declared.refusal.Refusal.{Refusal}
 use Rattle.desk_types.specs.declared.refusal.Refusal.TheVariants as refusals
@@ -251,6 +251,7 @@ version_one_reply_at domain log place =
 abbrev pub is_version_one : Command → Bool
 is_version_one (StandBy at unit incident) = false
 is_version_one (StandDown at unit) = false
+is_version_one (Replace at node token) = false
 is_version_one _ = true
 
 -- The command of an entry is of one of these.

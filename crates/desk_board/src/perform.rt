@@ -8,7 +8,7 @@ ghost use Rattle.desk_board.specs.Tables.{board_in};
 use crate::tables::Tables;
 use desk_incidents::new_id;
 use desk_types::limits::LAST_PLACE;
-use desk_types::{Command, Done, IncidentId, Refusal, WantOfMemory};
+use desk_types::{Command, Done, IncidentId, Refusal, WantOfMemory, Word};
 
 impl Tables {
     /// The identifier of the incident that a command at a place opens where no check refuses it, if it opens one.
@@ -79,6 +79,8 @@ impl Tables {
             Command::Release { unit, .. } => self.units.release(unit),
             Command::StandBy { unit, incident, .. } => self.stand_by(unit, incident),
             Command::StandDown { unit, .. } => self.units.stand_down(unit),
+            // It is about the nodes of the group, of which the board has nothing.
+            Command::Replace { .. } => Ok(Done::plain(Word::Replaced)),
         }
     }
 }

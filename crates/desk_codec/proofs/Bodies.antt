@@ -7,7 +7,7 @@ use Rattle.desk_types.specs.Numbers.{status_number, verb_number, verb_of_number}
 use Rattle.desk_types.specs.declared.command.Command.{Command}
 use Rattle.desk_types.specs.declared.command.Command.TheVariants.{Open, AddCall, Link, Unlink, Merge, Split, Clear}
 use Rattle.desk_types.specs.declared.command.Command.TheVariants.{Reopen, Note, SignOn, SignOff, Assign, SetStatus}
-use Rattle.desk_types.specs.declared.command.Command.TheVariants.{Release, StandBy, StandDown}
+use Rattle.desk_types.specs.declared.command.Command.TheVariants.{Release, StandBy, StandDown, Replace}
 use Rattle.desk_types.specs.declared.limits.TheConstants.{KIND_BYTES, SITE_BYTES, NOTE_BYTES, UNIT_BYTES, BODY_BYTES}
 use Rattle.desk_types.specs.declared.parts.IdKind.{IdKind}
 use Rattle.desk_types.specs.declared.parts.IdKind.TheVariants as kinds
@@ -20,10 +20,10 @@ use Rattle.desk_codec.specs.Reading.{Reader, mapped, first_text, first_incident,
 use Rattle.desk_codec.specs.Reading.{first_open, first_add_call, first_link, first_unlink, first_merge, first_split}
 use Rattle.desk_codec.specs.Reading.{first_clear, first_reopen, first_note, first_sign_on, first_sign_off, first_assign}
 use Rattle.desk_codec.specs.Reading.{first_set_status, first_release, first_stand_by, first_stand_down}
-use Rattle.desk_codec.specs.Reading.{first_of_verb, first_body}
+use Rattle.desk_codec.specs.Reading.{first_replace, first_of_verb, first_body}
 use Rattle.desk_codec.proofs.Forms.{IsBytes, IsBytes-rest, bind_some, Takes, Exact, and_then, takes_as, again_as}
 use Rattle.desk_codec.proofs.Fields.{exact_seconds, exact_text, exact_unit, unit_length, exact_identifier}
-use Rattle.desk_codec.proofs.Fields.{exact_optional}
+use Rattle.desk_codec.proofs.Fields.{exact_node, exact_optional, exact_token}
 use Rattle.desk_codec.proofs.Fields.{FitsOptional, exact_status}
 use Rattle.desk_codec.proofs.Identifiers.{canonical_length}
 
@@ -167,6 +167,12 @@ stand_down_takes bytes x h e =
     made_takes verbs.StandDown (λ x. StandDown x.0 x.1) (and_then exact_seconds exact_unit)
     (λ x. refl) (λ x f. f) bytes x h e
 
+replace_takes : TakesVerb verbs.Replace first_replace
+unfolding first_replace body_spelling
+replace_takes bytes x h e =
+    made_takes verbs.Replace (λ x. Replace x.0 x.1.0 x.1.1)
+    (and_then exact_seconds (and_then exact_node exact_token)) (λ x. refl) (λ x f. (f.0, f.1.0, f.1.1)) bytes x h e
+
 verb_takes : (verb : Verb) → TakesVerb verb (first_of_verb verb)
 unfolding first_of_verb
 verb_takes verbs.Open = open_takes
@@ -185,6 +191,7 @@ verb_takes verbs.SetStatus = set_status_takes
 verb_takes verbs.Release = release_takes
 verb_takes verbs.StandBy = stand_by_takes
 verb_takes verbs.StandDown = stand_down_takes
+verb_takes verbs.Replace = replace_takes
 
 body_takes : (bytes : List ℕ) (x : Command × List ℕ) → IsBytes bytes → first_body bytes ≡ Some x →
     Takes body_spelling FitsCommand bytes x.0 x.1
@@ -197,7 +204,7 @@ body_takes (b ∷ bytes) x h e =
 body_again : (c : Command) (rest : List ℕ) → FitsCommand c → first_body (body_spelling c ++ rest) ≡ Some (c, rest)
 unfolding first_body body_spelling verb_of_number first_of_verb first_open first_add_call first_link first_unlink
     first_merge first_split first_clear first_reopen first_note first_sign_on first_sign_off first_assign
-    first_set_status first_release first_stand_by first_stand_down
+    first_set_status first_release first_stand_by first_stand_down first_replace
 body_again (Open at kind site incident call) rest f =
     again_as (λ x. Open x.0 x.1.0 x.1.1.0 x.1.1.1.0 x.1.1.1.1)
     (and_then exact_seconds (and_then exact_kind
@@ -249,6 +256,9 @@ body_again (StandBy at unit incident) rest f =
 body_again (StandDown at unit) rest f =
     again_as (λ x. StandDown x.0 x.1) (and_then exact_seconds exact_unit)
     (at, unit) rest f
+body_again (Replace at node token) rest f =
+    again_as (λ x. Replace x.0 x.1.0 x.1.1) (and_then exact_seconds (and_then exact_node exact_token))
+    (at, (node, token)) rest (f.0, (f.1, f.2))
 
 pub exact_body : Exact body_spelling FitsCommand first_body
 exact_body = record { takes = body_takes; again = body_again }
@@ -348,6 +358,7 @@ body_length (StandBy at unit incident) f =
 body_length (StandDown at unit) f =
     let unit_length = name_length unit f.1 in
     omega (arith, unit_length)
+body_length (Replace at node token) f = lit≤ tt
 
 -- a body has its verb's number
 body_begins : (c : Command) → 1 ≤ length (body_spelling c)
@@ -368,6 +379,7 @@ body_begins (SetStatus at unit status) = omega arith
 body_begins (Release at unit) = omega arith
 body_begins (StandBy at unit incident) = omega arith
 body_begins (StandDown at unit) = omega arith
+body_begins (Replace at node token) = omega arith
 
 pub body_fits : BodiesFit
 body_fits c f = (body_begins c, body_length c f)

@@ -14,6 +14,7 @@ use Rattle.std.proofs.lemmas.Nat.{be_bytes_2, be_bytes_4, be_bytes_8, from_be_by
 use Rattle.std.proofs.lemmas.Nat.{from_be_bytes-to_be_bytes_4, from_be_bytes-to_be_bytes_8}
 use Rattle.std.proofs.lemmas.Option.{same_Some}
 use Rattle.std.proofs.lemmas.Str.{IsUtf8-from_is_utf8, is_utf8-from_IsUtf8}
+use Rattle.desk_types.specs.NumberRange.{FitsNodeNumber, FitsToken, is_node_number, is_token}
 use Rattle.desk_types.specs.Numbers.{status_number, status_of_number}
 use Rattle.desk_types.specs.UnitName.{is_unit_name, is_name_byte}
 use Rattle.desk_types.specs.declared.limits.TheConstants.{UNIT_BYTES}
@@ -30,6 +31,7 @@ use Rattle.desk_types.specs.Reading.{◌>>=◌}
 use Rattle.desk_codec.specs.Reading.{Fails, first_byte, first_number, first_long, first_seconds}
 use Rattle.desk_codec.specs.Reading.{first_bytes, first_short, first_short_text, is_within, first_text, first_unit}
 use Rattle.desk_codec.specs.Reading.{is_canonical, first_identifier, first_optional, first_status}
+use Rattle.desk_codec.specs.Reading.{first_node_number, first_token}
 use Rattle.desk_codec.proofs.Forms.{IsBytes, IsBytes-drop, IsBytes-take, IsBytes-rest, bind_some, unless_some}
 use Rattle.desk_codec.proofs.Forms.{and_parts, Takes, Exact, mapped_takes, exact_as, exact_checked, exact_of}
 use Rattle.desk_codec.proofs.Identifiers.{canonical_true, canonical_from, canonical_length}
@@ -131,6 +133,29 @@ pub exact_seconds : Exact seconds FitsSeconds first_seconds
 unfolding first_seconds
 exact_seconds =
     exact_as long FitsLong first_long (cast_signed w64) (cast_unsigned w64) FitsSeconds signed_to signed_from exact_long
+
+-- numbers of nodes, and tokens
+
+node_fits : (n : ℕ) → (n < 256) × IsTrue (is_node_number n) → FitsNodeNumber n
+node_fits n h = ltb-true _ _ h.1
+
+fits_node : (n : ℕ) → FitsNodeNumber n → (n < 256) × IsTrue (is_node_number n)
+fits_node n h = (omega (arith, h), grind (arith, nat_tests, h))
+
+pub exact_node : Exact one_byte FitsNodeNumber first_node_number
+exact_node = exact_of one_byte (λ n. (n < 256) × IsTrue (is_node_number n)) first_node_number FitsNodeNumber node_fits
+    fits_node
+    (exact_checked one_byte (λ n. n < 256) first_byte is_node_number exact_byte)
+
+token_fits : (n : ℕ) → FitsLong n × IsTrue (is_token n) → FitsToken n
+token_fits n h = (grind (arith, nat_tests, h.1), grind (arith, nat_tests, h.1))
+
+fits_token : (n : ℕ) → FitsToken n → FitsLong n × IsTrue (is_token n)
+fits_token n h = (omega (arith, h.1), grind (arith, nat_tests, h))
+
+pub exact_token : Exact long FitsToken first_token
+exact_token = exact_of long (λ n. FitsLong n × IsTrue (is_token n)) first_token FitsToken token_fits fits_token
+    (exact_checked long FitsLong first_long is_token exact_long)
 
 -- texts
 

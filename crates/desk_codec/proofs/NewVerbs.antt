@@ -3,7 +3,7 @@ use Rattle.std.proofs.Common.{◌≡◌, refl}
 use Rattle.desk_types.specs.declared.command.Command.{Command}
 use Rattle.desk_types.specs.declared.command.Command.TheVariants.{Open, AddCall, Link, Unlink, Merge, Split, Clear}
 use Rattle.desk_types.specs.declared.command.Command.TheVariants.{Reopen, Note, SignOn, SignOff, Assign, SetStatus}
-use Rattle.desk_types.specs.declared.command.Command.TheVariants.{Release, StandBy, StandDown}
+use Rattle.desk_types.specs.declared.command.Command.TheVariants.{Release, StandBy, StandDown, Replace}
 use Rattle.desk_codec.specs.Spelling.{body_spelling}
 use Rattle.desk_codec.specs.Version.{is_new_body, is_new_verb}
 
@@ -26,3 +26,4 @@ new_body (SetStatus at unit status) = refl
 new_body (Release at unit) = refl
 new_body (StandBy at unit incident) = refl
 new_body (StandDown at unit) = refl
+new_body (Replace at node token) = refl

@@ -3,13 +3,13 @@ use Rattle.std.specs.Prelude.{◌≤◌, ◌<◌, ◌^◌, ◌&&◌, ℕ, ℤ, p
 use Rattle.std.specs.List.{AllByRecursion}
 use Rattle.std.specs.Str.{IsUtf8}
 use Rattle.desk_types.specs.Identifier.{IsCanonical}
-use Rattle.desk_types.specs.NumberRange.{FitsNumber}
+use Rattle.desk_types.specs.NumberRange.{FitsNodeNumber, FitsNumber, FitsToken}
 use Rattle.desk_types.specs.Packet.{IsInRange}
 use Rattle.desk_types.specs.UnitName.{is_unit_name}
 use Rattle.desk_types.specs.declared.command.Command.{Command}
 use Rattle.desk_types.specs.declared.command.Command.TheVariants.{Open, AddCall, Link, Unlink, Merge, Split, Clear}
 use Rattle.desk_types.specs.declared.command.Command.TheVariants.{Reopen, Note, SignOn, SignOff, Assign, SetStatus}
-use Rattle.desk_types.specs.declared.command.Command.TheVariants.{Release, StandBy, StandDown}
+use Rattle.desk_types.specs.declared.command.Command.TheVariants.{Release, StandBy, StandDown, Replace}
 use Rattle.desk_types.specs.declared.command.Entry.{Entry}
 use Rattle.desk_types.specs.declared.limits.TheConstants.{KIND_BYTES, SITE_BYTES, NOTE_BYTES, LOG_ENTRIES, FRAME_BYTES}
 use Rattle.desk_types.specs.declared.packet.Message.{Message}
@@ -64,6 +64,7 @@ FitsCommand (SetStatus at unit status) = FitsSeconds at × FitsUnit unit
 FitsCommand (Release at unit) = FitsSeconds at × FitsUnit unit
 FitsCommand (StandBy at unit incident) = FitsSeconds at × FitsUnit unit × FitsIncident incident
 FitsCommand (StandDown at unit) = FitsSeconds at × FitsUnit unit
+FitsCommand (Replace at node token) = FitsSeconds at × FitsNodeNumber node × FitsToken token
 
 -- an entry whose numbers and command are within their ranges
 pub record FitsEntry (e : Entry) : Type 0 where

@@ -6,13 +6,14 @@ use Rattle.std.specs.List.{find}
 use Rattle.std.specs.Option.{option_map_or}
 use Rattle.std.specs.Str.{is_utf8, bytes_eq}
 use Rattle.desk_types.specs.Identifier.{canonical, is_same_kind}
+use Rattle.desk_types.specs.NumberRange.{is_node_number, is_token}
 use Rattle.desk_types.specs.Numbers.{status_of_number, verb_of_number}
 use Rattle.desk_types.specs.Reading.{◌>>=◌, reading}
 use Rattle.desk_types.specs.UnitName.{is_unit_name}
 use Rattle.desk_types.specs.declared.command.Command.{Command}
 use Rattle.desk_types.specs.declared.command.Command.TheVariants.{Open, AddCall, Link, Unlink, Merge, Split, Clear}
 use Rattle.desk_types.specs.declared.command.Command.TheVariants.{Reopen, Note, SignOn, SignOff, Assign, SetStatus}
-use Rattle.desk_types.specs.declared.command.Command.TheVariants.{Release, StandBy, StandDown}
+use Rattle.desk_types.specs.declared.command.Command.TheVariants.{Release, StandBy, StandDown, Replace}
 use Rattle.desk_types.specs.declared.limits.TheConstants.{KIND_BYTES, SITE_BYTES, NOTE_BYTES}
 use Rattle.desk_types.specs.declared.parts.IdKind.{IdKind}
 use Rattle.desk_types.specs.declared.parts.IdKind.TheVariants.{Incident, Call}
@@ -124,6 +125,14 @@ first_optional kind (suc (suc b) ∷ rest) = None
 unfoldable pub first_status : Reader Status
 first_status bytes = first_byte bytes >>= λ b. status_of_number b.0 >>= λ s. Some (s, b.1)
 
+-- the number of a node in its group
+abbrev pub first_node_number : Reader ℕ
+first_node_number = checked is_node_number first_byte
+
+-- a token
+abbrev pub first_token : Reader ℕ
+first_token = checked is_token first_long
+
 -- the fields of each verb
 
 unfoldable pub first_open : Reader Command
@@ -181,6 +190,9 @@ first_stand_by = mapped (λ x. StandBy x.0 x.1.0 x.1.1) (both first_seconds (bot
 unfoldable pub first_stand_down : Reader Command
 first_stand_down = mapped (λ x. StandDown x.0 x.1) (both first_seconds first_unit)
 
+unfoldable pub first_replace : Reader Command
+first_replace = mapped (λ x. Replace x.0 x.1.0 x.1.1) (both first_seconds (both first_node_number first_token))
+
 -- what stands after a verb's number
 unfoldable pub first_of_verb : Verb → Reader Command
 first_of_verb verbs.Open bytes = first_open bytes
@@ -199,6 +211,7 @@ first_of_verb verbs.SetStatus bytes = first_set_status bytes
 first_of_verb verbs.Release bytes = first_release bytes
 first_of_verb verbs.StandBy bytes = first_stand_by bytes
 first_of_verb verbs.StandDown bytes = first_stand_down bytes
+first_of_verb verbs.Replace bytes = first_replace bytes
 
 -- a command: its verb's number, and what stands after it
 unfoldable pub first_body : Reader Command

@@ -6,7 +6,7 @@ use Rattle.desk_types.specs.Numbers.{status_number, verb_number}
 use Rattle.desk_types.specs.declared.command.Command.{Command}
 use Rattle.desk_types.specs.declared.command.Command.TheVariants.{Open, AddCall, Link, Unlink, Merge, Split, Clear}
 use Rattle.desk_types.specs.declared.command.Command.TheVariants.{Reopen, Note, SignOn, SignOff, Assign, SetStatus}
-use Rattle.desk_types.specs.declared.command.Command.TheVariants.{Release, StandBy, StandDown}
+use Rattle.desk_types.specs.declared.command.Command.TheVariants.{Release, StandBy, StandDown, Replace}
 use Rattle.desk_types.specs.declared.command.Entry.{Entry}
 use Rattle.desk_types.specs.declared.limits.TheConstants.{BODY_BYTES}
 use Rattle.desk_types.specs.declared.packet.Message.{Message}
@@ -62,6 +62,7 @@ body_spelling (SetStatus at unit status) = made_at verbs.SetStatus at ++ (short_
 body_spelling (Release at unit) = made_at verbs.Release at ++ short_text unit
 body_spelling (StandBy at unit incident) = made_at verbs.StandBy at ++ (short_text unit ++ short_text incident)
 body_spelling (StandDown at unit) = made_at verbs.StandDown at ++ short_text unit
+body_spelling (Replace at node token) = made_at verbs.Replace at ++ (node ∷ long token)
 
 -- two bytes of length, and that many bytes
 abbrev pub sized : List ℕ → List ℕ

@@ -4,7 +4,7 @@ use Rattle.std.specs.Prelude.{if◌then◌else◌}
 use Rattle.std.specs.List.{list_any}
 use Rattle.desk_types.specs.Numbers.{verb_number}
 use Rattle.desk_types.specs.declared.command.Command.{Command}
-use Rattle.desk_types.specs.declared.command.Command.TheVariants.{StandBy, StandDown}
+use Rattle.desk_types.specs.declared.command.Command.TheVariants.{StandBy, StandDown, Replace}
 use Rattle.desk_types.specs.declared.command.Entry.{Entry}
 use Rattle.desk_types.specs.declared.limits.TheConstants.{FIRST_LOG_ENTRIES, LOG_ENTRIES}
 use Rattle.desk_types.specs.declared.packet.Message.{Message}
@@ -16,6 +16,7 @@ use Rattle.desk_types.specs.declared.verb.Verb.TheVariants as verbs
 abbrev pub is_new_verb : Command → Bool
 is_new_verb (StandBy at unit incident) = true
 is_new_verb (StandDown at unit) = true
+is_new_verb (Replace at node token) = true
 is_new_verb _ = false
 
 -- whether an entry has such a command
@@ -26,6 +27,7 @@ is_new_entry e = is_new_verb e.command
 abbrev pub is_new_body : List ℕ → Bool
 is_new_body body =
     (get_or body 0 0 == verb_number verbs.StandBy) || (get_or body 0 0 == verb_number verbs.StandDown)
+    || (get_or body 0 0 == verb_number verbs.Replace)
 
 -- the entries that a message carries
 abbrev pub entries_of : Message → List Entry

@@ -7,11 +7,11 @@ ghost use Rattle.desk_codec.specs.Spelling.{SpellsBody};
 ghost use Rattle.desk_codec.specs.Reading.{Gives, first_open, first_add_call, first_link, first_unlink, first_merge};
 ghost use Rattle.desk_codec.specs.Reading.{first_split, first_clear, first_reopen, first_note, first_sign_on};
 ghost use Rattle.desk_codec.specs.Reading.{first_sign_off, first_assign, first_set_status, first_release};
-ghost use Rattle.desk_codec.specs.Reading.{first_stand_by, first_stand_down};
+ghost use Rattle.desk_codec.specs.Reading.{first_stand_by, first_stand_down, first_replace};
 ghost use Rattle.desk_codec.specs.Reading.{first_of_verb, first_body, whole_body};
 
 use crate::fault::{FrameFault, SpellingFault};
-use crate::field::{read_byte, read_seconds, read_status};
+use crate::field::{node_of, read_byte, read_seconds, read_status, read_u64, token_of};
 use crate::identifier::{read_call, read_incident, read_optional_call, read_optional_incident};
 use crate::text::{read_text, read_unit};
 use desk_types::{Command, Verb};
@@ -207,6 +207,18 @@ fn read_stand_down(alloc: Global, bytes: &[u8]) -> Result<(Command, &[u8]), Spel
     Ok((Command::StandDown { at, unit }, rest))
 }
 
+#[tactic(auto, unfolding(crate::specs::Reading::first_replace))]
+fn read_replace(bytes: &[u8]) -> Result<(Command, &[u8]), SpellingFault>
+    ensures { Gives (λ x. (x.0, x.1.now)) result (first_replace bytes.now) }
+{
+    let (at, rest) = read_seconds(bytes)?;
+    let (number, rest) = read_byte(rest)?;
+    let node = node_of(number)?;
+    let (number, rest) = read_u64(rest)?;
+    let token = token_of(number)?;
+    Ok((Command::Replace { at, node, token }, rest))
+}
+
 /// What stands after the number of this verb.
 #[tactic(auto, unfolding(crate::specs::Reading::first_of_verb))]
 fn read_of_verb(alloc: Global, verb: Verb, bytes: &[u8]) -> Result<(Command, &[u8]), SpellingFault>
@@ -229,6 +241,7 @@ fn read_of_verb(alloc: Global, verb: Verb, bytes: &[u8]) -> Result<(Command, &[u
         Verb::Release => read_release(alloc, bytes),
         Verb::StandBy => read_stand_by(alloc, bytes),
         Verb::StandDown => read_stand_down(alloc, bytes),
+        Verb::Replace => read_replace(bytes),
     }
 }
 

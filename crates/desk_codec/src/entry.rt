@@ -65,6 +65,7 @@ fn is_entry_in(version: u8, entry: &Entry) -> bool
     match &entry.command {
         Command::StandBy { .. } => version == 2,
         Command::StandDown { .. } => version == 2,
+        Command::Replace { .. } => version == 2,
         _ => true,
     }
 }

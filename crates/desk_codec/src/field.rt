@@ -1,14 +1,15 @@
 //! Readers of single fields that take no memory. Each gives what the bytes begin with and the bytes after it, or
 //! `NoSpelling`.
 
-ghost use Rattle.std.specs.Prelude.{◌≡◌, IfErr};
+ghost use Rattle.std.specs.Prelude.{◌≡◌, IfErr, Some, None, if◌then◌else◌};
 ghost use Rattle.std.specs.Int.{w64};
+ghost use Rattle.desk_types.specs.NumberRange.{is_node_number, is_token};
 ghost use Rattle.desk_codec.specs.declared.fault.SpellingFault.TheVariants as faults;
 ghost use Rattle.desk_codec.specs.Reading.{Gives, first_byte, first_number, first_seconds, first_bytes, first_short};
 ghost use Rattle.desk_codec.specs.Reading.{first_status};
 
 use crate::fault::SpellingFault;
-use desk_types::Status;
+use desk_types::{NodeNumber, Status, Token};
 
 pub(crate) fn read_byte(bytes: &[u8]) -> Result<(u8, &[u8]), SpellingFault>
     ensures value { Gives (λ x. (x.0, x.1.now)) result (first_byte bytes.now) }
@@ -73,5 +74,25 @@ pub(crate) fn read_status(bytes: &[u8]) -> Result<(Status, &[u8]), SpellingFault
     match Status::of_number(byte) {
         None => Err(SpellingFault::NoSpelling),
         Some(status) => Ok((status, rest)),
+    }
+}
+
+/// The node that has this number in its group.
+pub(crate) fn node_of(number: u8) -> Result<NodeNumber, SpellingFault>
+    ensures { Gives (λ node. node) result (if is_node_number number then Some number else None) }
+{
+    match NodeNumber::new(number) {
+        None => Err(SpellingFault::NoSpelling),
+        Some(node) => Ok(node),
+    }
+}
+
+/// The token that is this number.
+pub(crate) fn token_of(number: u64) -> Result<Token, SpellingFault>
+    ensures { Gives (λ token. token) result (if is_token number then Some number else None) }
+{
+    match Token::new(number) {
+        None => Err(SpellingFault::NoSpelling),
+        Some(token) => Ok(token),
     }
 }

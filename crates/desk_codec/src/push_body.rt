@@ -3,17 +3,18 @@
 
 ghost use Rattle.std.specs.Prelude.{◌≡◌, ◌≤◌, ◌++◌, [], ◌∷◌, length, OnOk, OnErr, IfSome};
 ghost use Rattle.std.specs.Str.{IsUtf8};
+ghost use Rattle.desk_types.specs.NumberRange.{FitsNodeNumber, FitsToken};
 ghost use Rattle.desk_types.specs.Numbers.{status_number};
 ghost use Rattle.desk_types.specs.declared.verb.Verb.TheVariants as verbs;
 ghost use Rattle.desk_codec.specs.Ranges.{FitsSeconds, FitsText, FitsUnit, FitsIncident, FitsCall, FitsCommand};
 ghost use Rattle.desk_codec.specs.Growing.{Grows};
-ghost use Rattle.desk_codec.specs.Spelling.{made_at, short_text, optional_text, body_spelling};
+ghost use Rattle.desk_codec.specs.Spelling.{long, made_at, short_text, optional_text, body_spelling};
 
 use crate::push::{push_byte, push_bytes};
 use desk_types::limits::{KIND_BYTES, NOTE_BYTES, SITE_BYTES};
 use desk_types::{
-    BoundedText, CallId, Command, IncidentId, KindText, NoteText, SiteText, Status, UnitName, Verb,
-    WantOfMemory,
+    BoundedText, CallId, Command, IncidentId, KindText, NodeNumber, NoteText, SiteText, Status,
+    Token, UnitName, Verb, WantOfMemory,
 };
 
 /// Puts one byte of length and that many bytes last.
@@ -267,6 +268,22 @@ fn push_set_status(
     push_byte(out, status.number())
 }
 
+fn push_replace(
+    out: &mut Vec<u8>,
+    at: i64,
+    node: NodeNumber,
+    token: Token,
+) -> Result<(), WantOfMemory>
+    ensures spelling { OnOk result (out.new.items
+        ≡ out.old.items ++ (made_at verbs.Replace at ++ (node ∷ long token))) }
+    ensures fits { OnOk result (FitsSeconds at × FitsNodeNumber node × FitsToken token) }
+    ensures err { OnErr result (Grows out.old.items out.new.items) }
+{
+    push_verb(out, Verb::Replace, at)?;
+    push_byte(out, node.get())?;
+    push_bytes(out, &token.get().to_be_bytes())
+}
+
 #[tactic(auto, using(crate::proofs::Growing::grows_rules), unfolding(crate::specs::Spelling::body_spelling))]
 pub(crate) fn push_body(out: &mut Vec<u8>, command: &Command) -> Result<(), WantOfMemory>
     ensures spelling { OnOk result (out.new.items ≡ out.old.items ++ (body_spelling command.now)) }
@@ -334,5 +351,6 @@ pub(crate) fn push_body(out: &mut Vec<u8>, command: &Command) -> Result<(), Want
             incident,
         ),
         Command::StandDown { at, unit } => push_of_unit(out, Verb::StandDown, *at, unit),
+        Command::Replace { at, node, token } => push_replace(out, *at, *node, *token),
     }
 }

@@ -22,6 +22,7 @@ fn is_new_verb(command: &Command) -> bool
     match command {
         Command::StandBy { .. } => true,
         Command::StandDown { .. } => true,
+        Command::Replace { .. } => true,
         _ => false,
     }
 }
@@ -31,7 +32,11 @@ pub fn is_new_body(body: &[u8]) -> bool
     ensures { result ≡ is_new_body body.now }
 {
     match body.first() {
-        Some(verb) => *verb == Verb::StandBy.number() || *verb == Verb::StandDown.number(),
+        Some(verb) => {
+            *verb == Verb::StandBy.number()
+                || *verb == Verb::StandDown.number()
+                || *verb == Verb::Replace.number()
+        }
         None => false,
     }
 }

@@ -6,7 +6,7 @@ use Rattle.std.specs.Option.{ok_or}
 use Rattle.std.specs.Result.{result_ok}
 use Rattle.std.specs.Str.{bytes_eq}
 use Rattle.jiff.specs.Words.{parse_timestamp}
-use Rattle.desk_types.specs.declared.limits.TheConstants.{LAST_NUMBER}
+use Rattle.desk_types.specs.declared.limits.TheConstants.{LAST_NUMBER, LAST_TOKEN}
 use Rattle.desk_types.specs.declared.list.ListedState.{ListedState}
 use Rattle.desk_types.specs.declared.list.ListedState.TheVariants as listed
 use Rattle.desk_types.specs.declared.parts.IdKind.{IdKind}
@@ -18,6 +18,7 @@ use Rattle.desk_types.specs.declared.refusal.Refusal.TheVariants.{BadTime, WantO
 use Rattle.desk_types.specs.declared.show.Status.{Status}
 use Rattle.desk_types.specs.declared.show.Status.TheVariants as statuses
 use Rattle.desk_types.specs.Identifier.{Parts, canonical, is_same_kind}
+use Rattle.desk_types.specs.NumberRange.{is_node_number}
 use Rattle.desk_types.specs.Reading.{reading}
 use Rattle.desk_types.specs.UnitName.{is_unit_name}
 use Rattle.desk_eido.specs.Seen.{Seen, SeenMembers}
@@ -75,6 +76,18 @@ client_at d = member_number_at members.Session d
 -- the client's number of the request
 unfoldable pub request_number_at : SeenMembers → Result ℕ Refusal
 request_number_at d = member_number_at members.Number d
+
+-- the number of a node in its group, where a whole number is one
+abbrev pub node_number_of : Member → ℕ → Result ℕ Refusal
+node_number_of m n = if is_node_number n then Ok n else Err (OutOfRange m)
+
+-- the number of a node in its group, by the member `node`
+unfoldable pub node_number_at : SeenMembers → Result ℕ Refusal
+node_number_at d = natural_at members.Node d >>= node_number_of members.Node
+
+-- the token of a node, by the member `token`
+unfoldable pub token_at : SeenMembers → Result ℕ Refusal
+token_at d = natural_at members.Token d >>= (λ n. in_size members.Token LAST_TOKEN n n)
 
 -- the text of 1 to most bytes that a member is
 unfoldable pub bounded_at : ℕ → Member → SeenMembers → Result (List ℕ) Refusal

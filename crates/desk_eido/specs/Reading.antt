@@ -28,7 +28,7 @@ use Rattle.desk_eido.specs.Copied.{with_copy, no_name}
 use Rattle.desk_eido.specs.Seen.{Seen, SeenMembers, seen_members}
 use Rattle.desk_eido.specs.Members.{◌>>=◌, member_text, client_at, request_number_at, instant_at, bounded_at, unit_at}
 use Rattle.desk_eido.specs.Members.{unit_seen, status_at, identifier_at, id_seen, optional_id_at}
-use Rattle.desk_eido.specs.Members.{listed_state_at, optional_place_at}
+use Rattle.desk_eido.specs.Members.{listed_state_at, optional_place_at, node_number_at, token_at}
 
 -- the value that a line is
 abbrev pub value_of : List ℕ → Option Data
@@ -77,7 +77,8 @@ verb_of word =
     else if bytes_eq word (codes "status") then Some verbs.SetStatus
     else if bytes_eq word (codes "release") then Some verbs.Release
     else if bytes_eq word (codes "stand_by") then Some verbs.StandBy
-    else if bytes_eq word (codes "stand_down") then Some verbs.StandDown else None
+    else if bytes_eq word (codes "stand_down") then Some verbs.StandDown
+    else if bytes_eq word (codes "replace") then Some verbs.Replace else None
 
 -- the command that opens an incident at an instant
 unfoldable pub open_of : ℤ → SeenMembers → Result Command Refusal
@@ -189,6 +190,13 @@ stand_down_of at d = do
   unit ← unit_at members.Unit d
   Ok (commands.StandDown at unit)
 
+-- the command that has the node with a token act under a number of the group
+unfoldable pub replace_of : ℤ → SeenMembers → Result Command Refusal
+replace_of at d = do
+  node ← node_number_at d
+  token ← token_at d
+  Ok (commands.Replace at node token)
+
 -- the command of a verb at an instant
 abbrev pub command_of : Verb → ℤ → SeenMembers → Result Command Refusal
 command_of verbs.Open at d = open_of at d
@@ -207,6 +215,7 @@ command_of verbs.SetStatus at d = set_status_of at d
 command_of verbs.Release at d = release_of at d
 command_of verbs.StandBy at d = stand_by_of at d
 command_of verbs.StandDown at d = stand_down_of at d
+command_of verbs.Replace at d = replace_of at d
 
 -- the command of a verb, with its client, its number and its instant
 unfoldable pub entry_of : Verb → SeenMembers → Result Entry Refusal

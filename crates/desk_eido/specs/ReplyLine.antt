@@ -86,6 +86,7 @@ word_text words.StatusSet = codes "status_set"
 word_text words.Released = codes "released"
 word_text words.StandingBy = codes "standing_by"
 word_text words.StoodDown = codes "stood_down"
+word_text words.Replaced = codes "replaced"
 
 -- the word that tells a unit's status
 abbrev pub status_text : Status → List ℕ

@@ -5,6 +5,7 @@ mod ask;
 mod copied;
 mod copy;
 mod document;
+mod group_verbs;
 mod identifiers;
 mod incident_verbs;
 mod kind;

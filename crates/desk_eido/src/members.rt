@@ -2,7 +2,7 @@
 
 ghost use Rattle.desk_types.specs.declared.refusal.Member.TheVariants as members;
 ghost use Rattle.desk_eido.specs.Members.{GivesResult, seen_at, as_text, member_text, as_natural, natural_at};
-ghost use Rattle.desk_eido.specs.Members.{client_at, request_number_at};
+ghost use Rattle.desk_eido.specs.Members.{client_at, request_number_at, node_number_at, node_number_of, token_at};
 ghost use Rattle.desk_eido.specs.Members.{bounded_at, unit_at, unit_seen, status_at, instant_at};
 ghost use Rattle.desk_eido.specs.Document.{placed_members};
 ghost use Rattle.desk_eido.specs.SeenViews.{seen_view};
@@ -11,7 +11,10 @@ use crate::copied::Document;
 use crate::seen::Seen;
 use crate::status::status_of;
 use crate::time::seconds_of;
-use desk_types::{BoundedText, ClientId, Member, Refusal, RequestNumber, Status, UnitName};
+use desk_types::limits::MOST_NODES;
+use desk_types::{
+    BoundedText, ClientId, Member, NodeNumber, Refusal, RequestNumber, Status, Token, UnitName,
+};
 use std::alloc::Global;
 
 /// What is seen of a member.
@@ -82,6 +85,42 @@ pub(crate) fn request_number_at(document: &Document<'_>) -> Result<RequestNumber
     let member = Member::Number;
     match RequestNumber::new(natural_at(document, member)?) {
         Some(number) => Ok(number),
+        None => Err(Refusal::OutOfRange { member }),
+    }
+}
+
+/// The number of a node in its group, where a whole number is one.
+fn node_number_of(number: u64, member: Member) -> Result<NodeNumber, Refusal>
+    ensures { GivesResult (λ n. n) result (node_number_of member number) }
+{
+    let node = if number < MOST_NODES as u64 {
+        NodeNumber::new(number as u8)
+    } else {
+        None
+    };
+    match node {
+        Some(node) => Ok(node),
+        None => Err(Refusal::OutOfRange { member }),
+    }
+}
+
+/// The node that the member `node` names by its number.
+#[tactic(auto, unfolding(crate::specs::Members::node_number_at))]
+pub(crate) fn node_number_at(document: &Document<'_>) -> Result<NodeNumber, Refusal>
+    ensures { GivesResult (λ n. n) result (node_number_at (placed_members document.now)) }
+{
+    let member = Member::Node;
+    node_number_of(natural_at(document, member)?, member)
+}
+
+/// The token that the member `token` tells.
+#[tactic(auto, unfolding(crate::specs::Members::token_at))]
+pub(crate) fn token_at(document: &Document<'_>) -> Result<Token, Refusal>
+    ensures { GivesResult (λ t. t) result (token_at (placed_members document.now)) }
+{
+    let member = Member::Token;
+    match Token::new(natural_at(document, member)?) {
+        Some(token) => Ok(token),
         None => Err(Refusal::OutOfRange { member }),
     }
 }

@@ -151,5 +151,6 @@ fn word_text(word: Word) -> &'static str
         Word::Released => "released",
         Word::StandingBy => "standing_by",
         Word::StoodDown => "stood_down",
+        Word::Replaced => "replaced",
     }
 }

@@ -6,6 +6,7 @@ ghost use Rattle.desk_eido.specs.Reading.{verb_of, command_of};
 ghost use Rattle.desk_eido.specs.Document.{placed_members};
 
 use crate::copied::Document;
+use crate::group_verbs::replace_of;
 use crate::incident_verbs::{
     add_call_of, clear_of, link_of, merge_of, note_of, open_of, reopen_of, split_of, unlink_of,
 };
@@ -37,6 +38,7 @@ pub(crate) fn verb_of(word: &str) -> Option<Verb>
         "release" => Some(Verb::Release),
         "stand_by" => Some(Verb::StandBy),
         "stand_down" => Some(Verb::StandDown),
+        "replace" => Some(Verb::Replace),
         _ => None,
     }
 }
@@ -67,5 +69,6 @@ pub(crate) fn command_of_verb(
         Verb::Release => release_of(alloc, at, document),
         Verb::StandBy => stand_by_of(alloc, at, document),
         Verb::StandDown => stand_down_of(alloc, at, document),
+        Verb::Replace => replace_of(at, document),
     }
 }

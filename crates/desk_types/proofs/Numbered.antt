@@ -59,3 +59,4 @@ verb_again verbs.SetStatus = refl
 verb_again verbs.Release = refl
 verb_again verbs.StandBy = refl
 verb_again verbs.StandDown = refl
+verb_again verbs.Replace = refl

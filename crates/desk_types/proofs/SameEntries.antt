@@ -10,7 +10,7 @@ use Rattle.desk_types.specs.SameEntries.{same_entries}
 use Rattle.desk_types.specs.declared.command.Command.{Command}
 use Rattle.desk_types.specs.declared.command.Command.TheVariants.{Open, AddCall, Link, Unlink, Merge, Split, Clear}
 use Rattle.desk_types.specs.declared.command.Command.TheVariants.{Reopen, Note, SignOn, SignOff, Assign, SetStatus}
-use Rattle.desk_types.specs.declared.command.Command.TheVariants.{Release, StandBy, StandDown}
+use Rattle.desk_types.specs.declared.command.Command.TheVariants.{Release, StandBy, StandDown, Replace}
 use Rattle.desk_types.specs.declared.command.Entry.{Entry}
 use Rattle.desk_types.specs.declared.show.Status.{Status}
 use Rattle.desk_types.specs.declared.show.Status.TheVariants.{Available}
@@ -54,6 +54,7 @@ command_of_fields (Some verbs.SetStatus) at a b c d = SetStatus at a (status_fro
 command_of_fields (Some verbs.Release) at a b c d = Release at a
 command_of_fields (Some verbs.StandBy) at a b c d = StandBy at a b
 command_of_fields (Some verbs.StandDown) at a b c d = StandDown at a
+command_of_fields (Some verbs.Replace) at a b c d = Replace at (first_or_zero a) (first_or_zero b)
 command_of_fields None at a b c d = Release at a
 
 abbrev command_from : List (List ℕ) → Command
@@ -89,6 +90,7 @@ from_parts (SetStatus at unit status) = rw (time_back at, status_back status) re
 from_parts (Release at unit) = rw (time_back at) refl
 from_parts (StandBy at unit incident) = rw (time_back at) refl
 from_parts (StandDown at unit) = rw (time_back at) refl
+from_parts (Replace at node token) = rw (time_back at) refl
 
 pub same_command-Decides : (a b : Command) → Decides (same_command a b) (a ≡ b)
 unfolding same_command

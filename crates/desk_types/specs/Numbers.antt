@@ -42,11 +42,12 @@ verb_number verbs.SetStatus = 13
 verb_number verbs.Release = 14
 verb_number verbs.StandBy = 15
 verb_number verbs.StandDown = 16
+verb_number verbs.Replace = 17
 
 abbrev pub all_verbs : List Verb
 all_verbs = verbs.Open ∷ verbs.AddCall ∷ verbs.Link ∷ verbs.Unlink ∷ verbs.Merge ∷ verbs.Split ∷ verbs.Clear
     ∷ verbs.Reopen ∷ verbs.Note ∷ verbs.SignOn ∷ verbs.SignOff ∷ verbs.Assign ∷ verbs.SetStatus ∷ verbs.Release
-    ∷ verbs.StandBy ∷ verbs.StandDown ∷ []
+    ∷ verbs.StandBy ∷ verbs.StandDown ∷ verbs.Replace ∷ []
 
 -- the verb of a number, where one has it
 unfoldable pub verb_of_number : ℕ → Option Verb

@@ -6,7 +6,7 @@ use Rattle.desk_types.specs.Numbers.{status_number, verb_number}
 use Rattle.desk_types.specs.declared.command.Command.{Command}
 use Rattle.desk_types.specs.declared.command.Command.TheVariants.{Open, AddCall, Link, Unlink, Merge, Split, Clear}
 use Rattle.desk_types.specs.declared.command.Command.TheVariants.{Reopen, Note, SignOn, SignOff, Assign, SetStatus}
-use Rattle.desk_types.specs.declared.command.Command.TheVariants.{Release, StandBy, StandDown}
+use Rattle.desk_types.specs.declared.command.Command.TheVariants.{Release, StandBy, StandDown, Replace}
 use Rattle.desk_types.specs.declared.command.Entry.{Entry}
 use Rattle.desk_types.specs.declared.show.Status.{Status}
 use Rattle.desk_types.specs.declared.verb.Verb.{Verb}
@@ -25,6 +25,10 @@ time_part (negsuc seconds) = 1 ∷ seconds ∷ []
 -- a status
 abbrev pub status_part : Status → List ℕ
 status_part status = status_number status ∷ []
+
+-- the number of a node, or a token
+abbrev pub number_part : ℕ → List ℕ
+number_part number = number ∷ []
 
 -- a verb
 abbrev pub verb_part : Verb → List ℕ
@@ -49,6 +53,7 @@ parts (SetStatus at unit status) = verb_part verbs.SetStatus ∷ time_part at �
 parts (Release at unit) = verb_part verbs.Release ∷ time_part at ∷ unit ∷ []
 parts (StandBy at unit incident) = verb_part verbs.StandBy ∷ time_part at ∷ unit ∷ incident ∷ []
 parts (StandDown at unit) = verb_part verbs.StandDown ∷ time_part at ∷ unit ∷ []
+parts (Replace at node token) = verb_part verbs.Replace ∷ time_part at ∷ number_part node ∷ number_part token ∷ []
 
 -- whether two commands have equal parts
 unfoldable pub same_command : Command → Command → Bool

@@ -7,7 +7,8 @@ use crate::packet::Packet;
 pub enum Purpose {
     /// The rules of its epoch.
     Step,
-    /// Its sender is in its epoch, and lacks the entries after a place there. The packet is a GetState of view 0.
+    /// Its sender is in its epoch, and lacks the entries after a place there. The packet is a GetState, whose
+    /// view is the token of the node that asks.
     Ask,
     /// The log of its epoch, after a place, up to the epoch's end. The packet is a NewState of view 0.
     Tell,

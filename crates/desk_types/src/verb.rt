@@ -22,10 +22,11 @@ pub enum Verb {
     Release,
     StandBy,
     StandDown,
+    Replace,
 }
 
 impl Verb {
-    /// The number of the verb: 1 to 16.
+    /// The number of the verb: 1 to 17.
     pub fn number(self) -> u8
         ensures { result ≡ verb_number self }
     {
@@ -46,6 +47,7 @@ impl Verb {
             Verb::Release => 14,
             Verb::StandBy => 15,
             Verb::StandDown => 16,
+            Verb::Replace => 17,
         }
     }
 
@@ -71,6 +73,7 @@ impl Verb {
             14 => Some(Verb::Release),
             15 => Some(Verb::StandBy),
             16 => Some(Verb::StandDown),
+            17 => Some(Verb::Replace),
             _ => None,
         }
     }

@@ -45,7 +45,7 @@ const SENT: [(&str, &str); 3] = [
 ];
 
 /// Members of documents of client 9, behind its number and an instant: their entries have the lines of these documents.
-const VERBS: [&str; 15] = [
+const VERBS: [&str; 16] = [
     r#""do":"add_call","incident":"urn:nena:uid:incidentid:S-4:d.e","call":"urn:emergency:uid:callid:c2:x.y""#,
     r#""do":"link","incident":"urn:nena:uid:incidentid:S-4:d.e","other":"urn:nena:uid:incidentid:S-5:d.e""#,
     r#""do":"open","kind":"fire","where":"1 Oak St","incident":"urn:nena:uid:incidentid:S-5:d.e""#,
@@ -61,6 +61,7 @@ const VERBS: [&str; 15] = [
     r#""do":"sign_off","unit":"E1""#,
     r#""do":"clear","incident":"urn:nena:uid:incidentid:S-5:d.e""#,
     r#""do":"reopen","incident":"urn:nena:uid:incidentid:S-5:d.e""#,
+    r#""do":"replace","node":4,"token":1000000000000"#,
 ];
 
 /// Members of documents of client 10, as those of client 9.

@@ -76,6 +76,7 @@ const VERBS: &[&str] = &[
     "stand_by",
     "stand_by",
     "stand_down",
+    "replace",
 ];
 
 const KINDS: &[&str] = &["fire", "smoke", "medical"];

@@ -32,6 +32,12 @@ fn refusals_of_nodes_are_told(rt: HostRuntime) {
     assert!(rt; is_reported(rt.alloc(), want_of_memory, r#"{"refusal":40}"#));
 }
 
+#[test]
+fn an_unheard_member_is_told(rt: HostRuntime) {
+    let line = r#"{"number":1,"refusal":38,"session":7}"#;
+    assert!(rt; is_node_told(rt.alloc(), 1, Refusal::MemberUnheard, line) == Some(true));
+}
+
 // The statuses of which a unit has one only while it is committed, and the lines that would show it uncommitted.
 const UNITS: &[(Status, &str)] = &[
     (

@@ -42,13 +42,14 @@ const BODIES: &[&[u8]] = &[
     b"\0\x0c\x0e\0\0\0\0\x69\xa4\x2a\x40\x02E1",
     b"\0\x2d\x0f\0\0\0\0\x69\xa4\x2a\x40\x02E1\x20urn:emergency:uid:incidentid:1:a",
     b"\0\x0c\x10\0\0\0\0\x69\xa4\x2a\x40\x02E1",
+    b"\0\x12\x11\0\0\0\0\x69\xa4\x2a\x40\x01\0\0\0\0\0\0\0\x09",
 ];
 
 /// Puts a client's request of a verb that is drawn after other bytes: as often one that version 2 alone tells as any.
 fn put_drawn_request(bytes: &mut Vec<u8>, random: &mut Random, client: u64, number: u64) -> bool {
-    let verb = match random.below(32) {
-        verb @ 0..=15 => verb,
-        late => 14 + late % 2,
+    let verb = match random.below(34) {
+        verb @ 0..=16 => verb,
+        late => 14 + late % 3,
     };
     let body = BODIES.get(verb as usize).unwrap_or(&OPEN);
     put_numbers(bytes, &[client, number]).is_ok() && bytes.extend_from_slice(body).is_ok()
@@ -282,7 +283,7 @@ fn count_late(log: &Log) -> u64 {
     for entry in log.entries() {
         if matches!(
             entry.command,
-            Command::StandBy { .. } | Command::StandDown { .. }
+            Command::StandBy { .. } | Command::StandDown { .. } | Command::Replace { .. }
         ) {
             count = count.saturating_add(1);
         }

@@ -115,3 +115,10 @@ returns-in-StandDown c =
     let m = c.in-StandDown in
     let range : FitsSigned w64 m.at = search rules in
     rw m.is (rw (to_z-of_z w64 m.at range) at c.push_of_unit-in-StandDown.ensures)
+
+pub returns-in-Replace : goal.returns-in-Replace
+unfolding body_spelling
+returns-in-Replace c =
+    let m = c.in-Replace in
+    let range : FitsSigned w64 m.at = search rules in
+    rw m.is (rw (to_z-of_z w64 m.at range) at c.push_replace.ensures)

@@ -64,3 +64,7 @@ returns-in-stand_by c = rw c.in-stand_by.is
 pub returns-in-stand_down : goal.returns-in-stand_down
 unfolding verb_of
 returns-in-stand_down c = rw c.in-stand_down.is
+
+pub returns-in-replace : goal.returns-in-replace
+unfolding verb_of
+returns-in-replace c = rw c.in-replace.is

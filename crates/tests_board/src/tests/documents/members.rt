@@ -24,7 +24,7 @@ fn is_asked(alloc: Global, line: &str, wanted: &str) -> bool {
 }
 
 // What is inside a member is no member. A name is compared whole. A number past 32 bits is read whole. Of a list the
-// session is looked at first, then the state, then the place.
+// session is looked at first, then the state, then the place; of a replacement the node, then the token.
 const ROWS: &str = r#"
 - {"a":{"do":"open","session":8},"do":"show","session":7,"x":[{"unit":"E1"}]} gives 7 shows board
 - {"do":"show","x":{"session":7}} gives 3 session
@@ -49,6 +49,19 @@ const ROWS: &str = r#"
 - {"do":"list","session":7,"from":1.0} gives 4 from
 - {"do":"list","session":7,"from":18446744073709551616} gives 4 from
 - {"do":"List","session":7} gives 6
+- {"do":"replace","session":7,"number":1,"at":"2026-03-01T12:00:00Z","node":0,"token":1} gives
+  7/1 1772366400 replace|0|1
+- {"do":"replace","session":7,"number":1,"at":"2026-03-01T12:00:00Z","node":4,"token":1000000000000} gives
+  7/1 1772366400 replace|4|1000000000000
+- {"do":"replace","session":7,"number":1,"at":"2026-03-01T12:00:00Z","node":5,"token":0} gives 5 node
+- {"do":"replace","session":7,"number":1,"at":"2026-03-01T12:00:00Z","node":256,"token":1} gives 5 node
+- {"do":"replace","session":7,"number":1,"at":"2026-03-01T12:00:00Z","node":-1,"token":1} gives 5 node
+- {"do":"replace","session":7,"number":1,"at":"2026-03-01T12:00:00Z","node":"2","token":1} gives 4 node
+- {"do":"replace","session":7,"number":1,"at":"2026-03-01T12:00:00Z","token":1} gives 3 node
+- {"do":"replace","session":7,"number":1,"at":"2026-03-01T12:00:00Z","node":2,"token":0} gives 5 token
+- {"do":"replace","session":7,"number":1,"at":"2026-03-01T12:00:00Z","node":2,"token":1000000000001} gives 5 token
+- {"do":"replace","session":7,"number":1,"at":"2026-03-01T12:00:00Z","node":2,"token":1.5} gives 4 token
+- {"do":"replace","session":7,"number":1,"at":"2026-03-01T12:00:00Z","node":2} gives 3 token
 "#;
 
 #[test]

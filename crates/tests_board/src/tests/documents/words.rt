@@ -95,7 +95,8 @@ fn at_of(command: &Command) -> i64 {
         | Command::SetStatus { at, .. }
         | Command::Release { at, .. }
         | Command::StandBy { at, .. }
-        | Command::StandDown { at, .. } => *at,
+        | Command::StandDown { at, .. }
+        | Command::Replace { at, .. } => *at,
     }
 }
 
@@ -134,6 +135,10 @@ fn put_command(line: &mut Line, command: &Command) {
             put_words(line, &["split", incident.as_text(), call.as_text()]);
             line.put("|");
             put_words(line, &[kind.as_str(), site.as_str()]);
+        }
+        Command::Replace { node, token, .. } => {
+            line.put_number("replace|", node.get() as u64);
+            line.put_number("|", token.get());
         }
         _ => put_words(line, &command_words(command)),
     }

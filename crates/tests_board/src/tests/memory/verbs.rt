@@ -314,6 +314,7 @@ const EACH_VERB: &str = r#"
   {"calls":["urn:emergency:uid:callid:c2:x.example"],
   "incident":"urn:emergency:uid:incidentid:000000000017:desk.example","kind":"medical","links":[],"note":"",
   "opened":1772366400,"state":"open","units":["E2"],"where":"rear"}],"ok":"list","place":28,"session":7}
+- "do":"replace","node":2,"token":123 gives {"number":29,"ok":"replaced","place":29,"session":7}
 "#;
 
 #[test]

@@ -146,6 +146,7 @@ impl PlainBoard {
             "clear" => self.set_state(asked.incident, "cleared", 0),
             "reopen" => self.set_state(asked.incident, "open", 0),
             "note" => self.set_note(asked.incident, asked.unit),
+            "replace" => {}
             _ => self.change_unit(asked),
         }
     }

@@ -111,6 +111,7 @@ const RULES: &[Rule] = &[
         "stood_down",
         &[Check::SignedOn, Check::StandBy],
     ),
+    ("replace", "replaced", &[]),
 ];
 
 /// The word of a reply which tells that a verb is done, and its checks.

@@ -105,7 +105,8 @@ impl Asked {
         line.put_word(",\"kind\":", self.kind);
         line.put_number(",\"where\":\"", self.site);
         line.put_number(" Elm St\",\"text\":\"note ", self.unit);
-        line.put("\"");
+        line.put_number("\",\"node\":", self.unit % 5);
+        line.put_number(",\"token\":", self.call);
         line
     }
 }

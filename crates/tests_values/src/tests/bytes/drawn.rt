@@ -21,7 +21,10 @@ struct Text(&'static [u8], u64, &'static [u8]);
 enum Field {
     Text(Text),
     Maybe(Text),
-    Status,
+    /// One byte below a number.
+    Below(u64),
+    /// Eight bytes, a token of a node.
+    Token,
 }
 
 const KIND: Field = Field::Text(Text(b"\xc3\xa9", 30, b""));
@@ -56,10 +59,11 @@ const VERBS: &[&[Field]] = &[
     &[UNIT],
     &[UNIT],
     &[UNIT, INCIDENT],
-    &[UNIT, Field::Status],
+    &[UNIT, Field::Below(7)],
     &[UNIT],
     &[UNIT, INCIDENT],
     &[UNIT],
+    &[Field::Below(5), Field::Token],
 ];
 
 /// The last verb that version 1 tells.
@@ -80,11 +84,24 @@ fn put_text(bytes: &mut Vec<u8>, state: &mut u64, text: Text) -> Result<(), Allo
     bytes.extend_from_slice(end)
 }
 
+/// The greatest number of a client and of a request.
+const LAST_NUMBER: u64 = 9_007_199_254_740_991;
+
+/// The greatest token of a node.
+const LAST_TOKEN: u64 = 1_000_000_000_000;
+
+/// Puts a number that is drawn, from 1 to the most, as eight bytes.
+fn put_number(bytes: &mut Vec<u8>, state: &mut u64, most: u64) -> Result<(), AllocError> {
+    let number = below(state, most).saturating_add(1);
+    bytes.extend_from_slice(&number.to_be_bytes())
+}
+
 /// Puts a field that is drawn.
 fn put_field(bytes: &mut Vec<u8>, state: &mut u64, field: Field) -> Result<(), AllocError> {
     match field {
         Field::Text(text) => put_text(bytes, state, text),
-        Field::Status => Ok(bytes.push((below(state, 7) % 7) as u8)?),
+        Field::Below(most) => Ok(bytes.push((below(state, most) % 256) as u8)?),
+        Field::Token => put_number(bytes, state, LAST_TOKEN),
         Field::Maybe(_) if below(state, 2) == 0 => Ok(bytes.push(0)?),
         Field::Maybe(text) => {
             bytes.push(1)?;
@@ -115,11 +132,9 @@ fn body_of(alloc: Global, state: &mut u64, verb: u64) -> Result<Vec<u8>, AllocEr
 
 /// Puts an entry that is drawn, and gives its verb.
 fn put_drawn(alloc: Global, bytes: &mut Vec<u8>, state: &mut u64) -> Result<u64, AllocError> {
-    for _number in 0..2 {
-        let number = below(state, 9_007_199_254_740_991).saturating_add(1);
-        bytes.extend_from_slice(&number.to_be_bytes())?;
-    }
-    let verb = below(state, 16).saturating_add(1);
+    put_number(bytes, state, LAST_NUMBER)?;
+    put_number(bytes, state, LAST_NUMBER)?;
+    let verb = below(state, 17).saturating_add(1);
     let body = body_of(alloc, state, verb)?;
     bytes.push((body.len() / 256 % 256) as u8)?;
     bytes.push((body.len() % 256) as u8)?;
@@ -240,8 +255,8 @@ fn read_drawn(alloc: Global, count: u64) -> (u64, u64) {
     (verbs, count)
 }
 
-/// The bits of the verbs from 1 to 16.
-const ALL_VERBS: u64 = 0x1_fffe;
+/// The bits of the verbs from 1 to 17.
+const ALL_VERBS: u64 = 0x3_fffe;
 
 #[test]
 fn reads_drawn_packets_of_all_verbs(rt: HostRuntime) {

@@ -160,6 +160,8 @@ pub const BODIES: &[&[&[u8]]] = &[
     &[b"\x0e", AT, b"\x02E1"],
     &[b"\x0f", AT, b"\x02E1", INCIDENT],
     &[b"\x10", AT, b"\x02E1"],
+    &[b"\x11", AT, b"\0", ZEROS, b"\x01"],
+    &[b"\x11", AT, b"\x04\0\0\0\xe8\xd4\xa5\x10\0"],
 ];
 
 /// Bytes that are no body.
@@ -169,6 +171,11 @@ const OTHER_BODIES: &[&[&[u8]]] = &[
     &[b"\x0f", AT, b"\x02E1"],
     &[b"\x10", AT, b"\x02E1", INCIDENT],
     &[b"\x11", AT, b"\x02E1"],
+    &[b"\x11", AT, b"\x05", ZEROS, b"\x01"],
+    &[b"\x11", AT, b"\x02", ZEROS, b"\0"],
+    &[b"\x11", AT, b"\x02\0\0\0\xe8\xd4\xa5\x10\x01"],
+    &[b"\x11", AT, b"\x02", ZEROS, b"\x01\0"],
+    &[b"\x12", AT, b"\x02E1"],
     &[b"\x07", AT, INCIDENT, b"\0"],
     &[b"\x07", AT, b"\x20URN:emergency:uid:incidentid:1:a"],
     &[b"\x07", AT, b"\x20urn:emergency:uid:incidentid:1:A"],

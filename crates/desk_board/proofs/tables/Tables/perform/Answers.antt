@@ -90,3 +90,7 @@ returns-in-Open-clause-settles c = rw c.in-Open.is (search rules)
 pub returns-in-Split-clause-settles : goal.returns-in-Split-clause-settles
 unfolding refusal effect done
 returns-in-Split-clause-settles c = rw c.in-Split.is (search rules)
+
+pub returns-in-Replace-clause-settles : goal.returns-in-Replace-clause-settles
+unfolding refusal effect done
+returns-in-Replace-clause-settles c = rw c.in-Replace.is (search rules)

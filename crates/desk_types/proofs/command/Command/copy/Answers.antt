@@ -101,3 +101,9 @@ returns-in_ok-copy-in-StandDown c =
     let m = c.in-StandDown in
     let range : FitsSigned w64 m.at = search rules in
     rw (m.is, to_z-of_z w64 m.at range, c.in_ok-copy-in-StandDown.ensures)
+
+pub returns-in-Replace : goal.returns-in-Replace
+returns-in-Replace c =
+    let m = c.in-Replace in
+    let range : FitsSigned w64 m.at = search rules in
+    rw (m.is, to_z-of_z w64 m.at range)
