@@ -414,7 +414,7 @@ run_goes_on may_hold h Came n most old new g (act ∷ more) comes came stands (m
       stands = all.stands;
     }
 
-first_stand : StandFor [] (record { rows = []; length = 0; replacements = [] })
+pub first_stand : StandFor [] (record { rows = []; length = 0; replacements = [] })
 first_stand = record { length_is = refl; rows_are = λ client. refl; replacements_are = refl }
 
 -- the start
@@ -433,10 +433,10 @@ first_stands {T} {S} Came domain n most k first = record {
 
 -- nothing is said of requests
 
-AnyCame : Entry → Type 0
+pub AnyCame : Entry → Type 0
 AnyCame e = Unit {0}
 
-any_held : (held : List Entry) → AllByRecursion AnyCame held
+pub any_held : (held : List Entry) → AllByRecursion AnyCame held
 unfolding AnyCame
 any_held [] = tt
 any_held (e ∷ es) = (tt, any_held es)
@@ -452,7 +452,7 @@ any_turn : (turn : List Item) → AllByRecursion (CameMail AnyCame) turn
 any_turn [] = tt
 any_turn (item ∷ more) = (any_mail item, any_turn more)
 
-any_act : (act : KeeperAct) → CameAct AnyCame act
+pub any_act : (act : KeeperAct) → CameAct AnyCame act
 any_act (Takes i turn) = any_turn turn
 any_act (Breaks i turn count) = any_turn turn
 any_act (BreaksBetween i turn) = any_turn turn
@@ -464,7 +464,7 @@ any_acts : (acts : List KeeperAct) → CameActs AnyCame acts
 any_acts [] = tt
 any_acts (act ∷ more) = (any_act act, any_acts more)
 
-are_nodes : {T S : Type 0} (Came : Entry → Type 0) (most : ℕ) (k : EpochKeepers T S) (g : EpochNodes) →
+pub are_nodes : {T S : Type 0} (Came : Entry → Type 0) (most : ℕ) (k : EpochKeepers T S) (g : EpochNodes) →
     KeepersStand Came most k g → KeepersAreNodes k g
 are_nodes Came most k g stands = record {
   values_are = λ i. sym (stands.value_is i);

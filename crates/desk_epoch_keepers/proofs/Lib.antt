@@ -12,3 +12,4 @@ pub mod Rows
 pub mod HistoryFronts
 pub mod TurnActs
 pub mod OpenedStarts
+pub mod TokenKeepers

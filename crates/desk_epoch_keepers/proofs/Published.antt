@@ -43,7 +43,7 @@ pub front : (xs ys : List Entry) → IsPrefix xs ys → IsLogPrefix xs ys
 front xs ys p = subst (λ (l : List Entry). IsLogPrefix xs l) p.1 (prefix_append xs p.0)
 
 -- what a node has committed of all epochs is what its keeper has
-history_is : {T S : Type 0} (k : EpochKeepers T S) (g : EpochNodes) (i : ℕ) → KeepersAreNodes k g →
+pub history_is : {T S : Type 0} (k : EpochKeepers T S) (g : EpochNodes) (i : ℕ) → KeepersAreNodes k g →
     keeper_history k i ≡ history_of g i
 history_is {T} {S} k g i are =
     ap (λ (ls : List (List Entry)). joined_logs ls ++ committed_cut (replica_node (k.replicas i))) (are.logs_are i)
@@ -123,7 +123,7 @@ pub rows : {T S : Type 0} (may_hold : T → ℕ → SavedValue → Type 0) (h : 
     PublishedHistoryReplyHeld may_hold h
 rows may_hold h domain n most acts start k i list size is l p client = rows_are_latest domain list client
 
-one_reply : (domain : List ℕ) (log : List Entry) (client number p q : ℕ) (r t : Reply) → IsRising log →
+pub one_reply : (domain : List ℕ) (log : List Entry) (client number p q : ℕ) (r t : Reply) → IsRising log →
     IsReplyAt domain log client number p r → IsReplyAt domain log client number q t → (p ≡ q) × (r ≡ t)
 one_reply domain log client number p q r t rising a b =
     let place : p ≡ q =

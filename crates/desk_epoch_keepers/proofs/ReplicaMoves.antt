@@ -12,6 +12,8 @@ use Rattle.desk_types.specs.declared.epoch_packet.Purpose.TheVariants as purpose
 use Rattle.desk_types.specs.declared.outcome.Outcome.{Outcome}
 use Rattle.desk_types.specs.declared.packet.Message.{Message}
 use Rattle.desk_types.specs.declared.packet.Message.TheVariants.{NewState}
+use Rattle.desk_types.specs.declared.refusal.Refusal.{Refusal}
+use Rattle.desk_types.specs.declared.refusal.Refusal.TheVariants as refusals
 use Rattle.desk_log.specs.SavedValue.{SavedValue}
 use Rattle.desk_mailbox.specs.declared.item.Item.{Item}
 use Rattle.desk_mailbox.specs.declared.item.Item.TheVariants as mail
@@ -20,13 +22,13 @@ use Rattle.desk_replica.specs.declared.answer.Answer.{Answer}
 use Rattle.desk_world.proofs.Packets.{Contains-none, Contains-here}
 use Rattle.desk_epochs.specs.Epochs.{joined_logs}
 use Rattle.desk_epoch_node.specs.declared.deed.Deed.{Deed}
-use Rattle.desk_epoch_node.specs.declared.deed.Deed.TheVariants.{Ignore}
+use Rattle.desk_epoch_node.specs.declared.deed.Deed.TheVariants.{Ignore, Refuse}
 use Rattle.desk_epoch_node.specs.declared.event.EpochEvent.{EpochEvent}
 use Rattle.desk_epoch_node.specs.declared.event.EpochEvent.TheVariants as comes
 use Rattle.desk_epoch_node.specs.declared.step.EpochStep.{EpochStep}
 use Rattle.desk_epoch_node.specs.declared.step.EpochStep.TheVariants as steps
 use Rattle.desk_epoch_node.specs.Deeds.{deed}
-use Rattle.desk_epoch_node.specs.Does.{DoesDeed}
+use Rattle.desk_epoch_node.specs.Does.{DoesDeed, Only}
 use Rattle.desk_epoch_node.specs.EpochValue.{EpochValue, standing_of}
 use Rattle.desk_epoch_replica.specs.declared.deferring_replica.DeferringReplica.{DeferringReplica}
 use Rattle.desk_epoch_replica.specs.declared.item.EpochItem.{EpochItem}
@@ -36,7 +38,7 @@ use Rattle.desk_epoch_replica.specs.declared.replica_step.ReplicaStep.TheVariant
 use Rattle.desk_epoch_replica.specs.Deferring.{AfterTick, DoesReplicaItem, IsPut, Retries, Sends, TellsPast}
 use Rattle.desk_epoch_replica.specs.Deferring.{DeferringDoes}
 use Rattle.desk_epoch_replica.specs.Follows.{ReplicaDoes, ReplicaRefuses, reported_after, unsaved_after}
-use Rattle.desk_epoch_replica.specs.Items.{event_of_tick, is_tell, item_deed}
+use Rattle.desk_epoch_replica.specs.Items.{event_of_tick, is_tell, item_deed, refuses_replacement}
 use Rattle.desk_epoch_replica.specs.MemberValue.{MemberValue, member_suspects}
 use Rattle.desk_epoch_replica.specs.Outgoing.{own_packets, step_packets}
 use Rattle.desk_epoch_replica.specs.PastPackets.{IsPastPacket}
@@ -109,17 +111,51 @@ step_took may (steps.Tell to epoch base) h = tt
 step_took may (steps.Began log packets) h = h
 step_took may steps.Replaced h = tt
 
--- An item asks nothing of the node, or what its event asks.
-dropped_or : (drop : Bool) (asked : Deed) →
-    (cond drop Ignore asked ≡ Ignore) ⊎ (cond drop Ignore asked ≡ asked)
-dropped_or true asked = inl refl
-dropped_or false asked = inr refl
+-- The node stays as it is and says so much: it sends nothing, and no log was reported to it.
+pub record IsStill (asked : Deed) (said : EpochStep) : Type 0 where
+  pub only :
+      (past : List Entry) (old new : EpochValue) (made : EpochStep) → DoesDeed past asked old new made →
+      Only said old new made
+  pub logs_are : (logs : List (List Entry)) → logs_after logs said ≡ logs
+  pub packets_are : (e : EpochValue) (logs : List (List Entry)) → epoch_packets_of e logs said ≡ []
+  pub took : (may : Bool) → TookWhere may said
+  pub unreported : reported_log said ≡ None
+
+ignores : IsStill Ignore steps.Nothing
+ignores = record {
+  only = λ past old new made d. d;
+  logs_are = λ logs. refl;
+  packets_are = λ e logs. refl;
+  took = λ may. tt;
+  unreported = refl;
+}
+
+refuses : (client number : ℕ) (refusal : Refusal) →
+    IsStill (Refuse client number refusal) (steps.Refused client number refusal)
+refuses client number refusal = record {
+  only = λ past old new made d. d;
+  logs_are = λ logs. refl;
+  packets_are = λ e logs. refl;
+  took = λ may. tt;
+  unreported = refl;
+}
+
+-- An item leaves the node as it is, or asks what its event asks.
+abbrev pub AsksOrStill : Deed → Deed → Type 0
+AsksOrStill asked other = ((said : EpochStep) × IsStill asked said) ⊎ (asked ≡ other)
+
+still_or : (b : Bool) (still asked : Deed) (said : EpochStep) → IsStill still said →
+    AsksOrStill (cond b still asked) asked
+still_or true still asked said is = inl (said, is)
+still_or false still asked said is = inr refl
 
 pub item_asks : (past : List Entry) (takes : Bool) (m : MemberValue) (item : EpochItem) →
-    (item_deed past takes m item ≡ Ignore) ⊎ (item_deed past takes m item ≡ deed past m.node (item_event m item))
-item_asks past takes m (items.Request entry) = inr refl
-item_asks past takes m (items.Packet p) = dropped_or (not takes && is_tell p.purpose)
-    (deed past m.node (comes.Packet p))
+    AsksOrStill (item_deed past takes m item) (deed past m.node (item_event m item))
+item_asks past takes m (items.Request entry) =
+    still_or (refuses_replacement past m entry) _ (deed past m.node (comes.Request entry)) _
+    (refuses entry.client entry.number refusals.MemberUnheard)
+item_asks past takes m (items.Packet p) =
+    still_or (not takes && is_tell p.purpose) _ (deed past m.node (comes.Packet p)) _ ignores
 item_asks past takes m items.Tick = inr refl
 
 tick_sent : (sent : List (ℕ × EpochPacket)) (i : ℕ) (late : Bool) → WasSentBefore sent i (event_of_tick late)
@@ -183,23 +219,29 @@ record Done {T S : Type 0} (Came : Entry → Type 0) (n most i : ℕ) (g : Epoch
   reported : mid.reported ≡ reported_after old.reported (reported_log made)
   unsaved : mid.unsaved ≡ unsaved_after old.unsaved (reported_log made)
 
-dropped : {T S : Type 0} (Came : Entry → Type 0) (n most i : ℕ) (g : EpochNodes) (old mid : ReplicaValue T S)
-    (step : ReplicaStep) (logs : List (List Entry)) (may : Bool) (made : EpochStep) (met : MemberValue) →
-    Stands n most i g old.member.node logs → step ≡ step_to_send met made → mid.member.node ≡ met.node →
-    made ≡ steps.Nothing → met.node ≡ old.member.node → mid.reported ≡ reported_after old.reported (reported_log made) →
+stays : {T S : Type 0} (Came : Entry → Type 0) (n most i : ℕ) (g : EpochNodes) (old mid : ReplicaValue T S)
+    (step : ReplicaStep) (logs : List (List Entry)) (may : Bool) (asked : Deed) (made said : EpochStep)
+    (met : MemberValue) → Stands n most i g old.member.node logs → IsStill asked said → step ≡ step_to_send met made →
+    mid.member.node ≡ met.node → made ≡ said → met.node ≡ old.member.node →
+    mid.reported ≡ reported_after old.reported (reported_log made) →
     mid.unsaved ≡ unsaved_after old.unsaved (reported_log made) → Done Came n most i g old mid step logs may
-dropped Came n most i g old mid step logs may made met stands step_is mid_is none still reported unsaved =
+stays Came n most i g old mid step logs may asked made said met stands is step_is mid_is same still reported unsaved =
     record {
-      made = steps.Nothing;
+      made = said;
       met = met;
-      step_is = step_is ∙ ap (λ (x : EpochStep). step_to_send met x) none;
+      step_is = step_is ∙ ap (λ (x : EpochStep). step_to_send met x) same;
       met_is = mid_is;
-      has = subst (λ (v : EpochValue). HasLogs most i v logs) (sym still) stands.has;
-      moved = moved_none Came n most i g mid.member.node logs (stands.value_is ∙ sym (mid_is ∙ still)) stands.logs_are
-          (subst (λ (v : EpochValue). HasLogs most i v logs) (sym (mid_is ∙ still)) stands.has);
-      took = tt;
-      reported = reported ∙ ap (λ (x : EpochStep). reported_after old.reported (reported_log x)) none;
-      unsaved = unsaved ∙ ap (λ (x : EpochStep). unsaved_after old.unsaved (reported_log x)) none;
+      has = subst (λ (ls : List (List Entry)). HasLogs most i met.node ls) (sym (is.logs_are logs))
+          (subst (λ (v : EpochValue). HasLogs most i v logs) (sym still) stands.has);
+      moved = subst (λ (ls : List (List Entry)). Moved Came n most i g mid.member.node ls
+          (epoch_packets_of old.member.node logs said)) (sym (is.logs_are logs))
+          (subst (λ (sent : List (ℕ × EpochPacket)). Moved Came n most i g mid.member.node logs sent)
+          (sym (is.packets_are old.member.node logs))
+          (moved_none Came n most i g mid.member.node logs (stands.value_is ∙ sym (mid_is ∙ still)) stands.logs_are
+          (subst (λ (v : EpochValue). HasLogs most i v logs) (sym (mid_is ∙ still)) stands.has)));
+      took = is.took may;
+      reported = reported ∙ ap (λ (x : EpochStep). reported_after old.reported (reported_log x)) same;
+      unsaved = unsaved ∙ ap (λ (x : EpochStep). unsaved_after old.unsaved (reported_log x)) same;
     }
 
 met_it : {T S : Type 0} (Came : Entry → Type 0) (n most i : ℕ) (g : EpochNodes) (old mid : ReplicaValue T S)
@@ -271,10 +313,10 @@ done {T} {S} Came n most i g old mid step logs item stands sent came does =
         let unsaved_is : mid.unsaved ≡ unsaved_after old.unsaved (reported_log made) =
         unsaved ∙ ap (λ (l : Option (List Entry)). unsaved_after old.unsaved l) log_is in
         ⊎_elim
-        (λ ignored.
-        let d = subst (λ (x : Deed). DoesDeed past x old.member.node met.node made) ignored meets.does in
-        dropped Came n most i g old mid step logs (item_tells item) made met stands step_is mid_is d.0 d.1
-        reported_is unsaved_is)
+        (λ still.
+        let d = still.1.only past old.member.node met.node made meets.does in
+        stays Came n most i g old mid step logs (item_tells item) (item_deed past (takes_logs old) old.member item)
+        made still.0 met stands still.1 step_is mid_is d.0 d.1 reported_is unsaved_is)
         (λ asked.
         let d = subst (λ (x : Deed). DoesDeed past x old.member.node met.node made) asked meets.does in
         met_it Came n most i g old mid step logs item made met stands sent came step_is mid_is d reported_is

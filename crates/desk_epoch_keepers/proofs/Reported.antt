@@ -105,9 +105,10 @@ end_moves {T} {S} Came n most i g old mid step logs item stands sent saved does 
         let no : true ≡ false = sym unsaved ∙ (now ∙ saved) in cc
     by_some (Some log) made met mid_is log_is reported now d =
         ⊎_elim
-        (λ ignored.
-        let only = subst (λ (x : Deed). DoesDeed past x e met.node made) ignored d in
-        absurd (none-some log (sym (log_is ∙ ap (λ (x : EpochStep). reported_log x) only.0))))
+        (λ still.
+        let only = still.1.only past e met.node made d in
+        absurd (none-some log
+        (sym (log_is ∙ (ap (λ (x : EpochStep). reported_log x) only.0 ∙ still.1.unreported)))))
         (λ asked. (
           log,
           reported,

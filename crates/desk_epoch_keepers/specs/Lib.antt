@@ -2,3 +2,4 @@ pub mod Group
 pub mod Agreement
 pub mod Turns
 pub mod Starts
+pub mod Members

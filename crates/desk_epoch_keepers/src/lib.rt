@@ -8,6 +8,10 @@ ghost use Rattle.desk_epoch_keepers.specs.Agreement.{PublishedHistoryIsRising, P
 ghost use Rattle.desk_epoch_keepers.specs.Agreement.{PublishedHistoryRepliesAgree, PublishedHistoryRepliesStay};
 ghost use Rattle.desk_epoch_keepers.specs.Agreement.{ReadHistoryRepliesAgree};
 ghost use Rattle.desk_epoch_keepers.specs.Agreement.{OneHistory, HistoryRowsAreReplies};
+ghost use Rattle.desk_epoch_keepers.specs.Members.{BoardsByTokensAgree, BoardsByTokensConsistent};
+ghost use Rattle.desk_epoch_keepers.specs.Members.{IdentifiersByTokensStay, PublishedByTokensAgree};
+ghost use Rattle.desk_epoch_keepers.specs.Members.{PublishedByTokensRises, RepliesByTokensAgree};
+ghost use Rattle.desk_epoch_keepers.specs.Members.{TokenKeepersMakeNodes};
 ghost use Rattle.desk_epoch_keepers.specs.Starts.{OpenedIsStart};
 ghost use Rattle.desk_epoch_keepers.specs.Turns.{TurnsAreActs, TurnsPublishHistory, TurnsShowAll};
 
@@ -56,4 +60,24 @@ pub fn group<T: EpochStores>()
     // What a session reads of a client is such a reply; sessions that read one number of it read one reply.
     ensures read { HistoryRowsAreReplies T.may_hold T.Store.StateStore }
     ensures read_replies { ReadHistoryRepliesAgree T.may_hold T.Store.StateStore }
+{}
+
+/// What is true of every such group in which numbers have more nodes than one, each with a token and a keeper of its
+/// own. There are three or five numbers, and of each as many nodes as may be, of which the one with token 0 acts first.
+/// It does nothing: its clauses are the facts.
+pub fn members<T: EpochStores>()
+    // What the keepers do are acts of a group of nodes of which `desk_epoch_members::group` speaks; later too.
+    ensures nodes { TokenKeepersMakeNodes T.may_hold T.Store.StateStore }
+    // What two nodes have published, then and later, in whatever epochs, is one a prefix of the other.
+    ensures agree { PublishedByTokensAgree T.may_hold T.Store.StateStore }
+    // As far as both have published, they have one board.
+    ensures boards { BoardsByTokensAgree T.may_hold T.Store.StateStore }
+    // Each such board is consistent: identifiers differ, and no unit is committed to two incidents.
+    ensures consistent { BoardsByTokensConsistent T.may_hold T.Store.StateStore }
+    // An identifier names one incident for good.
+    ensures names { IdentifiersByTokensStay T.may_hold T.Store.StateStore }
+    // No numbered command is published twice, in whatever epochs.
+    ensures rising { PublishedByTokensRises T.may_hold T.Store.StateStore }
+    // A number of a client has one place and one reply.
+    ensures replies { RepliesByTokensAgree T.may_hold T.Store.StateStore }
 {}

@@ -1,5 +1,5 @@
 -- What is asked of a node over epochs by what comes to it.
-use Rattle.std.specs.Prelude.{ℕ, Bool, not, ◌&&◌, ◌==◌, nat_lt, if◌then◌else◌, List}
+use Rattle.std.specs.Prelude.{ℕ, Bool, true, false, not, ◌&&◌, ◌==◌, nat_lt, if◌then◌else◌, List}
 use Rattle.std.specs.Option.{is_some}
 use Rattle.desk_types.specs.declared.command.Entry.{Entry}
 use Rattle.desk_types.specs.declared.packet.Message.{Message}
@@ -21,7 +21,7 @@ use Rattle.desk_types.specs.declared.epoch_packet.Purpose.TheVariants as purpose
 use Rattle.desk_epoch_node.specs.declared.standing.Standing.{Standing}
 use Rattle.desk_epoch_node.specs.declared.standing.Standing.TheVariants.{Acts, Awaits, Replaced}
 use Rattle.desk_epoch_node.specs.Ends.{reaches_end}
-use Rattle.desk_epoch_node.specs.EpochValue.{EpochValue, has_next, standing_of}
+use Rattle.desk_epoch_node.specs.EpochValue.{EpochValue, acts, has_next, standing_of}
 use Rattle.desk_epoch_node.specs.PastRows.{one_log_admission}
 
 -- The node of the epoch meets a request, unless its log has reached the epoch's end. Then the request is held for the
@@ -43,6 +43,17 @@ deed_by e entry admissions.Full = deed_here e entry
 abbrev pub looks_back : EpochValue → Entry → Bool
 looks_back e entry =
     leads e.node.id e.node.n e.node.saved && not (is_some (latest entry.client e.node.saved.log))
+
+abbrev pub is_append : Admission → Bool
+is_append admissions.Append = true
+is_append admission = false
+
+-- Whether the node, whose past logs are these entries, puts a request last as a new one: it acts, it leads its view,
+-- its log has not reached the epoch's end, and no log has the request or a later one of its client.
+abbrev pub appends : List Entry → EpochValue → Entry → Bool
+appends past e entry =
+    acts e && leads e.node.id e.node.n e.node.saved && not (reaches_end e.most e.node.saved.log)
+    && is_append (one_log_admission past e.node.saved.log entry.client entry.number)
 
 -- what a request asks of the node, whose past logs are these entries
 abbrev pub request_deed : List Entry → EpochValue → Entry → Deed

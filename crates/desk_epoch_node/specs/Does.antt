@@ -2,6 +2,7 @@
 use Rattle.std.specs.Prelude.{◌≡◌, ℕ, ◌+◌, Bool, true, false, ◌&&◌, nat_le, if◌then◌else◌, List, ◌++◌, length}
 use Rattle.std.specs.Prelude.{take, drop, Option, Some, None}
 use Rattle.desk_types.specs.declared.command.Entry.{Entry}
+use Rattle.desk_types.specs.declared.limits.TheConstants.{LAST_TOKEN}
 use Rattle.desk_types.specs.declared.outcome.Outcome.{Outcome}
 use Rattle.desk_types.specs.declared.packet.Message.{Message}
 use Rattle.desk_types.specs.declared.packet.Message.TheVariants.{GetState, NewState}
@@ -90,9 +91,17 @@ abbrev pub IsBegun : List Entry → List Entry → EpochValue → EpochValue →
 IsBegun past whole old new (steps.Began log packets) = (log ≡ whole) × BeginsAfter past whole old new packets.items
 IsBegun past whole old new step = ⊥
 
--- the packets by which a node asks all others for what it lacks of its epoch
+-- The token that a node says where it asks. One that no replacement can name is said as 0.
+abbrev pub said_token : ℕ → ℕ
+said_token token = if nat_le token LAST_TOKEN then token else 0
+
+-- the packet by which a node asks for what it lacks of its epoch
+abbrev pub asking_packet : EpochValue → Message
+asking_packet e = GetState e.node.id (said_token e.token) (length (committed_cut e))
+
+-- the packets by which it asks all others
 abbrev pub asking_packets : EpochValue → List (ℕ × Message)
-asking_packets e = to_others e.node.id e.node.n (GetState e.node.id 0 (length (committed_cut e)))
+asking_packets e = to_others e.node.id e.node.n (asking_packet e)
 
 -- The node asks all others, and stays as it is.
 abbrev pub IsAskAll : EpochValue → EpochValue → EpochStep → Type 0
@@ -115,8 +124,7 @@ DoesDeed past (Own event) old new step = IsOwn old event new step
 DoesDeed past (Answer client number place) old new step = Only (steps.Known client number place) old new step
 DoesDeed past (Refuse client number refusal) old new step = Only (steps.Refused client number refusal) old new step
 DoesDeed past (Keep entry) old new step = Only (steps.Deferred entry) old new step
-DoesDeed past (Ask to) old new step =
-    Only (steps.Ask to (GetState old.node.id 0 (length (committed_cut old)))) old new step
+DoesDeed past (Ask to) old new step = Only (steps.Ask to (asking_packet old)) old new step
 DoesDeed past AskAll old new step = IsAskAll old new step
 DoesDeed past (Tell to epoch base) old new step = Only (steps.Tell to epoch base) old new step
 DoesDeed past (Take base entries) old new step =

@@ -2,14 +2,21 @@
 use Rattle.std.specs.Prelude.{ℕ, Bool, ◌&&◌, ◌||◌, ◌==◌, if◌then◌else◌, List, [], ◌∷◌, Option, Some, None}
 use Rattle.std.specs.List.{list_any}
 use Rattle.std.specs.Option.{is_some}
+use Rattle.desk_types.specs.declared.command.Command.{Command}
+use Rattle.desk_types.specs.declared.command.Command.TheVariants.{Replace}
 use Rattle.desk_types.specs.declared.command.Entry.{Entry}
 use Rattle.desk_epoch_node.specs.declared.replacement.Replacement.{Replacement}
 use Rattle.desk_epoch_node.specs.declared.standing.Standing.{Standing}
 use Rattle.desk_epoch_node.specs.declared.standing.Standing.TheVariants.{Acts, Awaits, Replaced}
 
--- What an entry names for the epochs after its own. No command names a replacement.
+-- the replacement that a command names, if it names one
+abbrev pub replacement_of : Command → Option Replacement
+replacement_of (Replace at node token) = Some (record { node = node; token = token })
+replacement_of _ = None
+
+-- what an entry names for the epochs after its own
 unfoldable pub named_by : Entry → Option Replacement
-named_by e = None
+named_by e = replacement_of e.command
 
 -- whether an entry ends its epoch
 abbrev pub ends_epoch : Entry → Bool

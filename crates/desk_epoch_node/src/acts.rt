@@ -2,12 +2,11 @@
 
 ghost use Rattle.std.specs.Prelude.{◌≡◌, ◌≤◌, ◌++◌, List, length, take, true, IfOk, OnErr};
 ghost use Rattle.desk_types.specs.declared.command.Entry.{Entry as AnEntry};
-ghost use Rattle.desk_types.specs.declared.limits.TheConstants.{LOG_ENTRIES};
-ghost use Rattle.desk_types.specs.declared.packet.Message.TheVariants.{GetState};
+ghost use Rattle.desk_types.specs.declared.limits.TheConstants.{LAST_TOKEN, LOG_ENTRIES};
 ghost use Rattle.desk_epoch_node.specs.Deeds.{deed};
-ghost use Rattle.desk_epoch_node.specs.Does.{DoesDeed, IsAskAll, IsBegun, IsOwn, IsTaken, is_rest, whole_log};
+ghost use Rattle.desk_epoch_node.specs.Does.{DoesDeed, IsAskAll, IsBegun, IsOwn, IsTaken, asking_packet};
+ghost use Rattle.desk_epoch_node.specs.Does.{is_rest, said_token, whole_log};
 ghost use Rattle.desk_epoch_node.specs.Ends.{is_whole};
-ghost use Rattle.desk_epoch_node.specs.EpochValue.{committed_cut};
 ghost use Rattle.desk_epoch_node.specs.PastRows.{StandFor};
 
 use crate::cut::{cut_at_commit, cut_with, first_cut};
@@ -17,6 +16,7 @@ use crate::event::EpochEvent;
 use crate::step::{Ended, EpochStep};
 use desk_log::{Log, push_to_others};
 use desk_node::Event;
+use desk_types::limits::LAST_TOKEN;
 use desk_types::{Entry, Items, Message, Packet, WantOfMemory};
 
 /// Whether the first entries of a log, and these after them, are the whole log of an epoch.
@@ -39,6 +39,14 @@ fn is_whole(log: &Log, base: u64, entries: &[Entry], most: u64) -> bool
     cut.count == base + count
 }
 
+/// The token that a node says where it asks. It is 0 where no replacement can name its own.
+fn said_token(token: u64) -> u64
+    ensures value { result ≡ said_token token }
+    ensures within { result ≤ LAST_TOKEN }
+{
+    if token <= LAST_TOKEN { token } else { 0 }
+}
+
 impl EpochNode {
     /// Its node of the epoch deals with an event.
     fn own(&mut self, event: Event) -> Result<EpochStep, WantOfMemory>
@@ -53,11 +61,11 @@ impl EpochNode {
 
     /// The packet by which the node asks for what it lacks of its epoch.
     fn ask(&self) -> Packet
-        ensures { result ≡ GetState self.now.node.id 0 (length (committed_cut self.now)) }
+        ensures { result ≡ asking_packet self.now }
     {
         Packet::new(Message::GetState {
             from: self.node.id(),
-            view: 0,
+            view: said_token(self.token),
             base: self.committed(),
         })
     }

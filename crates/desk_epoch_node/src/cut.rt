@@ -1,12 +1,12 @@
 //! How much of a log is of its epoch.
 
-ghost use Rattle.std.specs.Prelude.{◌≡◌, ◌≤◌, ℕ, [], ◌∷◌, ◌++◌, List, take};
+ghost use Rattle.std.specs.Prelude.{◌≡◌, ◌≤◌, ℕ, [], ◌∷◌, ◌++◌, List, length, take};
 ghost use Rattle.desk_types.specs.declared.command.Entry.{Entry as AnEntry};
 ghost use Rattle.desk_log.specs.SavedValue.{committed_entries};
-ghost use Rattle.desk_epoch_node.specs.Ends.{IsCut, IsShort};
+ghost use Rattle.desk_epoch_node.specs.Ends.{IsCut, IsShort, reaches_end};
 
 use crate::replacement::named_by;
-use desk_log::Saved;
+use desk_log::{Log, Saved};
 use desk_types::Entry;
 
 /// How many entries of a list are of its epoch, up to the epoch's end, and whether they reach that end. It comes after
@@ -68,4 +68,14 @@ pub fn cut_at_commit(before: Cut, known: u64, saved: &Saved, most: u64) -> Cut
     prove!(saved.commit() <= saved.log().len());
     let committed = &saved.log().entries()[..saved.commit() as usize];
     cut_with(before, &committed[known as usize..], most)
+}
+
+/// Whether the first entries of a log, so many, reach the end of their epoch, which comes after `most` entries, at
+/// least 1, or after the first that names a replacement. The time is linear in them.
+pub fn has_ended(log: &Log, commit: u64, most: u64) -> bool
+    requires commit { commit ≤ length log.now }
+    requires least { 1 ≤ most }
+    ensures { result ≡ reaches_end most (take commit log.now) }
+{
+    cut_with(first_cut(), &log.entries()[..commit as usize], most).ended
 }

@@ -3,10 +3,12 @@
 ghost use Rattle.std.specs.Prelude.{◌≡◌, List};
 ghost use Rattle.desk_types.specs.declared.command.Entry.{Entry as AnEntry};
 ghost use Rattle.desk_epoch_node.specs.declared.deed.Deed.TheVariants.{Answer, Refuse};
-ghost use Rattle.desk_epoch_node.specs.Deeds.{acting_deed, asks_later, asks_other, awaiting_deed, awaiting_packet};
-ghost use Rattle.desk_epoch_node.specs.Deeds.{deed, deed_by, deed_here, is_other, looks_back};
+ghost use Rattle.desk_epoch_node.specs.Deeds.{acting_deed, appends, asks_later, asks_other, awaiting_deed};
+ghost use Rattle.desk_epoch_node.specs.Deeds.{awaiting_packet, deed, deed_by, deed_here, is_append, is_other};
+ghost use Rattle.desk_epoch_node.specs.Deeds.{looks_back};
 ghost use Rattle.desk_epoch_node.specs.Deeds.{packet_deed, replaced_deed, request_deed, taking, telling};
 ghost use Rattle.desk_epoch_node.specs.Ends.{reaches_end};
+ghost use Rattle.desk_epoch_node.specs.EpochValue.{is_acting};
 ghost use Rattle.desk_epoch_node.specs.PastRows.{StandFor};
 
 use crate::cut::cut_with;
@@ -55,6 +57,20 @@ fn taking(message: Message) -> Deed
             Deed::Ignore
         }
     }
+}
+
+/// Whether a request is put last as a new one.
+fn is_append(admission: Admission) -> bool
+    ensures { result ≡ is_append admission }
+{
+    matches!(admission, Admission::Append)
+}
+
+/// Whether a node with this standing acts.
+fn is_acting(standing: Standing) -> bool
+    ensures { result ≡ is_acting standing }
+{
+    matches!(standing, Standing::Acts)
 }
 
 /// What is asked of a node that was replaced.
@@ -127,6 +143,19 @@ impl EpochNode {
         let log = self.node.saved().log();
         let admission = self.past.admission(log, entry.client, entry.number);
         self.deed_by(entry, admission)
+    }
+
+    /// Whether the node puts a request last as a new one: it acts, it leads its view, its log has not reached the
+    /// epoch's end, and no log has the request or a later one of its client. The time is linear in the entries that are
+    /// not committed.
+    pub fn appends(&self, entry: &Entry) -> bool
+        ensures { (past : List AnEntry) → StandFor past self.now.past → result ≡ appends past self.now entry.now }
+    {
+        let saved = self.node.saved();
+        is_acting(self.standing)
+            && self.node.member().leads(saved)
+            && !self.is_log_full()
+            && is_append(self.past.admission(saved.log(), entry.client, entry.number))
     }
 
     /// Whether it is another node of the group.

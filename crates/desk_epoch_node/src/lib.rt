@@ -18,7 +18,7 @@ mod standing;
 mod step;
 mod tell;
 
-pub use cut::{Cut, cut_at_commit, first_cut};
+pub use cut::{Cut, cut_at_commit, first_cut, has_ended};
 pub use deed::Deed;
 pub use epoch_node::EpochNode;
 pub use event::EpochEvent;

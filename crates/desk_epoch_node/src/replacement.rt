@@ -3,7 +3,7 @@
 ghost use Rattle.std.specs.Prelude.{◌≡◌};
 ghost use Rattle.desk_epoch_node.specs.Replacements.{named_by};
 
-use desk_types::Entry;
+use desk_types::{Command, Entry};
 
 /// Names the node that acts under a number in the epochs after its own: the one that has this token.
 #[derive(Clone, Copy)]
@@ -17,6 +17,11 @@ pub struct Replacement {
 pub fn named_by(entry: &Entry) -> Option<Replacement>
     ensures { result ≡ named_by entry.now }
 {
-    let _ = entry;
-    None
+    match &entry.command {
+        Command::Replace { node, token, .. } => Some(Replacement {
+            node: node.get(),
+            token: token.get(),
+        }),
+        _ => None,
+    }
 }

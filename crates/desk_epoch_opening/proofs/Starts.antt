@@ -1,22 +1,25 @@
 -- A replica at the start of its keeper.
 use Rattle.std.proofs.Common.{◌≡◌, ◌++◌, ◌∙◌, ℕ, List, [], length, take, refl, sym, ap, subst, arith}
-use Rattle.std.proofs.Common.{append-nil, length-append, inl, inr, None, false, Result, Ok, IfOk}
+use Rattle.std.proofs.Common.{append-nil, length-append, inl, inr, None, Bool, false, true, Result, Ok, IfOk}
 use Rattle.desk_types.specs.declared.command.Entry.{Entry}
 use Rattle.desk_types.specs.declared.owner.Owner.{Owner}
+use Rattle.desk_types.specs.declared.refusal.Refusal.{Refusal}
+use Rattle.desk_types.specs.declared.refusal.Refusal.TheVariants as refusals
+use Rattle.desk_types.specs.Refusal.{is_want_of_memory}
 use Rattle.desk_log.specs.SavedValue.{SavedValue}
 use Rattle.desk_log.specs.declared.state_store.StateStore.{Ghosts}
 use Rattle.desk_published.specs.Writer.{EqualsPrefix, followed_by}
 use Rattle.desk_published.proofs.PrefixEquations.{is_front}
 use Rattle.desk_replica.specs.Saving.{MayPrepare, Saving, entries_or}
 use Rattle.desk_threads.specs.Noted.{IsNoted, replica_history}
-use Rattle.desk_epoch_node.specs.EpochValue.{committed_cut}
+use Rattle.desk_epoch_node.specs.EpochValue.{committed_cut, standing_of}
 use Rattle.desk_epoch_node.specs.PastRows.{PastValue, StandFor}
 use Rattle.desk_epoch_stores.specs.Starting.{MayHoldLogs, MayHoldNoMore, is_finished, saved_cut}
 use Rattle.desk_epoch_replica.specs.declared.deferring_replica.DeferringReplica.{DeferringReplica}
 use Rattle.desk_epoch_replica.specs.DeferringSaves.{IsInPast, deferring_saving, log_of_state}
 use Rattle.desk_epoch_replica.specs.MemberValue.{MemberValue}
-use Rattle.desk_epoch_replica.specs.ReplicaValue.{ReplicaValue}
-use Rattle.desk_epoch_replica.specs.Saves.{IsSavedReplica, replica_base, replica_cut}
+use Rattle.desk_epoch_replica.specs.ReplicaValue.{ReplicaValue, is_replaced, was_replaced}
+use Rattle.desk_epoch_replica.specs.Saves.{IsSavedReplica, PreparesReplica, replica_base, replica_cut}
 use Rattle.desk_epoch_opening.specs.Pasts.{past_in}
 use Rattle.desk_epoch_opening.specs.Opened.{IsOpened, StartsFrom}
 
@@ -89,6 +92,19 @@ opened_noted may_hold g holds owner token most r noted none is =
 
 pub none_in_past : {T S : Type 0} (r : ReplicaValue T S) → r.reported ≡ None → IsInPast r
 none_in_past r none = omega (arith, ap (λ o. length (log_of_state o)) none)
+
+-- Where no more than memory was refused to what was prepared, no other node acts in the replica's place.
+pub acts_on : {T S : Type 0} (may_hold : T → ℕ → SavedValue → Type 0) (old new : ReplicaValue T S)
+    (refusal : Refusal) → PreparesReplica may_hold old new → is_want_of_memory refusal ≡ true →
+    (is_replaced old ≡ true → refusal ≡ refusals.NodeStopped) → is_replaced new ≡ false
+acts_on may_hold old new refusal prepares memory replaced = by_standing (is_replaced old) refl
+  where
+    by_standing : (was : Bool) → is_replaced old ≡ was → is_replaced new ≡ false
+    by_standing true was =
+        let no : false ≡ true = subst (λ r. is_want_of_memory r ≡ true) (replaced was) memory in
+        absurd (let none : ⊥ = cc in none)
+    by_standing false acts =
+        ap (λ (m : MemberValue). was_replaced (standing_of m.node)) prepares.member_is ∙ acts
 
 -- What is prepared at the start leaves the replica as it was, but for the stores of other epochs. These may hold no
 -- more than before.

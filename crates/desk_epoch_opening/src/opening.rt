@@ -8,6 +8,7 @@ ghost use Rattle.desk_types.specs.declared.refusal.Refusal.TheVariants as refusa
 ghost use Rattle.desk_epoch_opening.specs.Opened.{IsOpened, StartsFrom};
 ghost use Rattle.desk_epoch_replica.specs.MemberValue.{HasPast};
 ghost use Rattle.desk_epoch_replica.specs.Refusals.{IsStartRefusal};
+ghost use Rattle.desk_epoch_replica.specs.ReplicaValue.{is_replaced};
 ghost use Rattle.desk_epoch_replica.specs.Saves.{IsSavedReplica};
 ghost use Rattle.desk_epoch_stores.specs.Starting.{MayHoldNoMore};
 ghost use Rattle.desk_mailbox.specs.Ends.{IsNewSender, capacity_of, first_numbers, no_sender_left, numbers_of};
@@ -26,16 +27,6 @@ use desk_threads::{Keeper, SENDERS, SESSIONS, SessionEnds, open_replica};
 use desk_types::{Owner, Refusal};
 use std::alloc::Global;
 use std::sync::Wait;
-
-/// Why there is no keeper of a replica that is prepared.
-fn keeper_refusal(refusal: Refusal) -> Refusal
-    ensures { (result ≡ refusals.WantOfMemory) ⊎ (result ≡ refusals.StoreFault) }
-{
-    match &refusal {
-        Refusal::StoreFault => Refusal::StoreFault,
-        _ => Refusal::WantOfMemory,
-    }
-}
 
 /// The replica of a node that starts in an epoch, which holds no requests. The store of the next epoch is opened, but
 /// where memory is refused to that. Where it is refused otherwise, all stores are closed.
@@ -57,6 +48,7 @@ fn start_replica<T: EpochStores>(
     ensures reported { IfOk result (λ r. r.replica.reported ≡ None) }
     ensures deferred { IfOk result (λ r. r.deferred.items ≡ []) }
     ensures saved { IfOk result (λ r. IsSavedReplica T.Store.StateStore r.replica) }
+    ensures acting { IfOk result (λ r. is_replaced r.replica ≡ false) }
     ensures fault { IfErr result (λ refused. IsStartRefusal refused.refusal) }
     ensures back { IfErr result (λ refused. IsSome refused.stores) }
     ensures same { IfErr result (λ refused. IfSome refused.stores (MayHoldNoMore T.may_hold stores)) }
@@ -65,14 +57,17 @@ fn start_replica<T: EpochStores>(
         Ok(replica) => replica,
         Err(stores) => return Err(RefusedOpening::with(Refusal::WantOfMemory, stores)),
     };
-    if let Err(refusal) = replica.prepare_unless_replaced() {
-        // For want of memory it is tried again after a turn.
-        if !refusal.is_want_of_memory() {
+    match replica.prepare_unless_replaced() {
+        Ok(()) => Ok(DeferringReplica::new(alloc, replica)),
+        Err(refusal) => {
+            // For want of memory it is tried again after a turn.
+            if refusal.is_want_of_memory() {
+                return Ok(DeferringReplica::new(alloc, replica));
+            }
             let (back, _) = replica.into_stores().close();
-            return Err(RefusedOpening::with(refusal, back));
+            Err(RefusedOpening::with(refusal, back))
         }
     }
-    Ok(DeferringReplica::new(alloc, replica))
 }
 
 /// The keeper of a node over epochs, each of which ends after so many entries, `most`, 1 to 65,536. It is the owner's
@@ -108,6 +103,8 @@ pub fn open_epochs<B: BoardName, T: EpochStores + Drop, R: Wait>(
     ensures stores { IfOk result (λ ends. MayHoldNoMore T.may_hold stores ends.0.replica.replica.stores) }
     ensures reported { IfOk result (λ ends. ends.0.replica.replica.reported ≡ None) }
     ensures deferred { IfOk result (λ ends. ends.0.replica.deferred.items ≡ []) }
+    // A node in whose place another acts is not opened.
+    ensures acting { IfOk result (λ ends. is_replaced ends.0.replica.replica ≡ false) }
     ensures running { IfOk result (λ ends. ends.0.stopped ≡ false) }
     ensures taken { IfOk result (λ ends. taken_by ends.0.taker ≡ []) }
     ensures left { IfOk result (λ ends. no_sender_left ends.0.taker ≡ false) }
@@ -146,7 +143,7 @@ pub fn open_epochs<B: BoardName, T: EpochStores + Drop, R: Wait>(
     match open_replica(rt, alloc, writer, replica) {
         Ok(ends) => Ok(ends),
         Err(refusal) => Err(RefusedOpening {
-            refusal: keeper_refusal(refusal),
+            refusal,
             stores: None,
         }),
     }

@@ -28,7 +28,7 @@ use Rattle.desk_epoch_node.specs.EpochValue.{EpochValue, has_next, standing_of}
 use Rattle.desk_epoch_node.specs.PastRows.{StandFor, one_log_admission}
 use Rattle.desk_epoch_replica.specs.declared.item.EpochItem.{EpochItem}
 use Rattle.desk_epoch_replica.specs.declared.item.EpochItem.TheVariants as items
-use Rattle.desk_epoch_replica.specs.Items.{MemberMeets, event_of_tick, is_tell, item_deed}
+use Rattle.desk_epoch_replica.specs.Items.{MemberMeets, event_of_tick, is_tell, item_deed, refuses_replacement}
 use Rattle.desk_epoch_replica.specs.MemberValue.{HasPast, MemberValue, member_suspects}
 use Rattle.desk_epoch_replica.specs.Steps.{reported_log}
 use Rattle.desk_epoch_replica.proofs.FollowedSteps.{ask_all_tells_none, own_tells_none}
@@ -114,7 +114,8 @@ tick_takes_none Replaced past e false = refl
 
 item_takes_none : (past : List Entry) (m : MemberValue) (item : EpochItem) →
     takes_entries (item_deed past false m item) ≡ false
-item_takes_none past m (items.Request entry) = request_takes_none (standing_of m.node) past m.node entry
+item_takes_none past m (items.Request entry) =
+    of_either (refuses_replacement past m entry) _ _ refl (request_takes_none (standing_of m.node) past m.node entry)
 item_takes_none past m (items.Packet p) = packet_takes_none (standing_of m.node) past m.node p
 item_takes_none past m items.Tick = tick_takes_none (standing_of m.node) past m.node (member_suspects m)
 

@@ -6,6 +6,8 @@ use Rattle.std.proofs.Props.{props}
 use mathlib.Core.List.{IsPrefix}
 use Rattle.desk_types.specs.declared.command.Entry.{Entry}
 use Rattle.desk_types.specs.declared.epoch_packet.EpochPacket.{EpochPacket}
+use Rattle.desk_types.specs.declared.refusal.Refusal.{Refusal}
+use Rattle.desk_types.specs.declared.refusal.Refusal.TheVariants as refusals
 use Rattle.desk_log.specs.Entries.{IsLogPrefix}
 use Rattle.desk_log.specs.SavedValue.{SavedValue, committed_entries}
 use Rattle.desk_log.specs.declared.state_store.StateStore.{Ghosts}
@@ -26,7 +28,7 @@ use Rattle.desk_epoch_replica.specs.InOrder.{after_past, replica_still, replica_
 use Rattle.desk_epoch_replica.specs.MemberValue.{MemberValue}
 use Rattle.desk_epoch_replica.specs.declared.replica_step.ReplicaStep.{ReplicaStep}
 use Rattle.desk_epoch_replica.specs.Outgoing.{step_packets}
-use Rattle.desk_epoch_replica.specs.ReplicaValue.{ReplicaValue, with_stores}
+use Rattle.desk_epoch_replica.specs.ReplicaValue.{ReplicaValue, preparation_fault, with_stores}
 use Rattle.desk_epoch_replica.specs.Saves.{FailsToBegin, FailsToPrepare, FailsToSaveReplica, IsPrepared}
 use Rattle.desk_epoch_replica.specs.Saves.{IsSavedReplica, PreparesReplica, ReplicaBegins, SavesReplica, StoreFollows}
 use Rattle.desk_epoch_replica.specs.Saves.{may_begin, replica_cut}
@@ -103,11 +105,13 @@ abbrev pub PreparesDeferring : {T S : Type 0} → (T → ℕ → SavedValue → 
 PreparesDeferring may_hold old new =
     PreparesReplica may_hold old.replica new.replica × (new.deferred ≡ old.deferred)
 
--- The replica could not begin the next epoch, or not prepare a beginning, and the same requests are held.
-abbrev pub StopsDeferring : {T S : Type 0} → (T → ℕ → SavedValue → Type 0) → DeferringReplica T S →
+-- The replica could not begin the next epoch, where its save failed, or not prepare a beginning, and the same requests
+-- are held.
+abbrev pub StopsDeferring : {T S : Type 0} → (T → ℕ → SavedValue → Type 0) → Refusal → DeferringReplica T S →
     DeferringReplica T S → Type 0
-StopsDeferring may_hold old new =
-    (FailsToBegin old.replica new.replica ⊎ FailsToPrepare may_hold old.replica new.replica)
+StopsDeferring may_hold fault old new =
+    (((fault ≡ refusals.StoreFault) × FailsToBegin old.replica new.replica)
+    ⊎ ((fault ≡ preparation_fault old.replica) × FailsToPrepare may_hold old.replica new.replica))
     × (new.deferred ≡ old.deferred)
 
 pub stands_before_prop : {T S : Type 0} (r : DeferringReplica T S) (past : List Entry) →

@@ -1,3 +1,5 @@
+pub mod Ticks
+pub mod Heard
 pub mod MemberValue
 pub mod Items
 pub mod Steps

@@ -1,6 +1,8 @@
 -- A replica over epochs as its callers see it.
-use Rattle.std.specs.Prelude.{◌≡◌, Bool, true, false, not, ◌&&◌, Option}
+use Rattle.std.specs.Prelude.{◌≡◌, Bool, true, false, not, ◌&&◌, if◌then◌else◌, Option}
 use Rattle.std.specs.Option.{is_some}
+use Rattle.desk_types.specs.declared.refusal.Refusal.{Refusal}
+use Rattle.desk_types.specs.declared.refusal.Refusal.TheVariants as refusals
 use Rattle.desk_log.specs.SavedValue.{SavedValue}
 use Rattle.desk_epoch_node.specs.EpochValue.{standing_of}
 use Rattle.desk_epoch_node.specs.declared.standing.Standing.{Standing}
@@ -31,6 +33,10 @@ was_replaced Replaced = true
 -- whether it was replaced: it is to stop
 abbrev pub is_replaced : {T S : Type 0} → ReplicaValue T S → Bool
 is_replaced r = was_replaced (standing_of r.member.node)
+
+-- what stops a replica that cannot prepare a beginning: another node acts in its place, or a store failed
+abbrev pub preparation_fault : {T S : Type 0} → ReplicaValue T S → Refusal
+preparation_fault r = if is_replaced r then refusals.NodeStopped else refusals.StoreFault
 
 -- the replica, with other stores of other epochs
 abbrev pub with_stores : {T S : Type 0} → T → ReplicaValue T S → ReplicaValue T S

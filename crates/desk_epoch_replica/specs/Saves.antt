@@ -80,6 +80,7 @@ pub record EntersEpoch (old new : MemberValue) : Type 0 where
   pub ticks_are : new.ticks ≡ 0
   pub ask_ticks_are : new.ask_ticks ≡ old.ask_ticks
   pub tell_ticks_are : new.tell_ticks ≡ old.tell_ticks
+  pub heard_are : new.heard ≡ old.heard
   pub refused_is : new.refused ≡ old.refused
 
 -- The replica began the next epoch, after all that it had committed of its own, and is saved there. What it keeps of

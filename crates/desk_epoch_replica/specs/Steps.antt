@@ -52,6 +52,7 @@ after_sending m made = record {
   ticks = m.ticks;
   ask_ticks = ask_ticks_after m.ask_ticks made;
   tell_ticks = tell_ticks_after m.tell_ticks made;
+  heard = m.heard;
   refused = m.refused;
 }
 

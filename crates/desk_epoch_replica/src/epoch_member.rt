@@ -4,6 +4,7 @@ ghost use Rattle.std.specs.Prelude.{◌≡◌, IfOk};
 ghost use Rattle.desk_epoch_node.specs.EpochValue.{committed_cut};
 ghost use Rattle.desk_epoch_replica.specs.MemberValue.{HasPast, new_member, member_suspects, member_refused_once};
 
+use crate::heard::{HeardToken, heard_at_start};
 use crate::limits::ASK_TICKS;
 use crate::ticking::{one_more, rows_at_start};
 use desk_epoch_node::EpochNode;
@@ -13,12 +14,14 @@ use std::alloc::Global;
 use std::marker::Model;
 
 /// A node over epochs, the ticks since it last heard of its primary or suspected it, those since it last asked for a
-/// log and since each node was last told one, and how many items were refused for want of memory.
+/// log and since each node was last told one, the token that each node last said where it asked, and how many items
+/// were refused for want of memory.
 pub struct EpochMember {
     pub(crate) node: EpochNode,
     pub(crate) ticks: u64,
     pub(crate) ask_ticks: u64,
     pub(crate) tell_ticks: Vec<u64>,
+    pub(crate) heard: Vec<HeardToken>,
     pub(crate) refused: u64,
 }
 
@@ -30,6 +33,7 @@ impl Drop for EpochMember {
             ticks: _,
             ask_ticks: _,
             tell_ticks: _,
+            heard: _,
             refused: _,
         } = self;
     }
@@ -45,6 +49,7 @@ impl Model for EpochMember {
       ticks = m.ticks;
       ask_ticks = m.ask_ticks;
       tell_ticks = m.tell_ticks.items;
+      heard = m.heard.items;
       refused = m.refused;
     } };
 
@@ -59,11 +64,13 @@ impl EpochMember {
     {
         let n = node.node().member().n;
         let tell_ticks = rows_at_start(alloc, n)?;
+        let heard = heard_at_start(alloc, n)?;
         Ok(EpochMember {
             node,
             ticks: 0,
             ask_ticks: ASK_TICKS,
             tell_ticks,
+            heard,
             refused: 0,
         })
     }

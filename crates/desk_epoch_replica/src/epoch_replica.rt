@@ -13,7 +13,8 @@ ghost use Rattle.desk_epoch_node.specs.PastRows.{StandFor};
 ghost use Rattle.desk_epoch_replica.specs.Follows.{ReplicaDoes, ReplicaFollows, ReplicaRefuses};
 ghost use Rattle.desk_epoch_replica.specs.Follows.{reported_after, unsaved_after};
 ghost use Rattle.desk_epoch_replica.specs.MemberValue.{HasPast, new_member};
-ghost use Rattle.desk_epoch_replica.specs.ReplicaValue.{ReplicaValue, is_replaced, takes_logs, with_stores};
+ghost use Rattle.desk_epoch_replica.specs.ReplicaValue.{ReplicaValue, is_replaced, preparation_fault, takes_logs};
+ghost use Rattle.desk_epoch_replica.specs.ReplicaValue.{with_stores};
 ghost use Rattle.desk_epoch_replica.specs.Refusals.{IsStartRefusal};
 ghost use Rattle.desk_epoch_replica.specs.Saves.{FailsToBegin, FailsToPrepare, IsPrepared, PreparesReplica};
 ghost use Rattle.desk_epoch_replica.specs.Saves.{ReplicaBegins, FailsToSaveReplica, IsSavedReplica, SavesReplica};
@@ -309,6 +310,18 @@ impl<T: EpochStores> EpochReplica<T> {
         match self.member.node().standing() {
             Standing::Acts | Standing::Awaits => false,
             Standing::Replaced => true,
+        }
+    }
+
+    /// What stops a replica that cannot prepare a beginning: `NodeStopped` where it was replaced, else `StoreFault`,
+    /// also where a store is missing or another node's.
+    pub(crate) fn preparation_fault(&self) -> Refusal
+        ensures { result ≡ preparation_fault self.now }
+    {
+        if self.is_replaced() {
+            Refusal::NodeStopped
+        } else {
+            Refusal::StoreFault
         }
     }
 

@@ -86,7 +86,15 @@ impl<T: EpochStores> SavedReplica for DeferringReplica<T> {
     }
 
     fn prepare(&mut self) -> Result<(), Refusal> {
-        self.replica.prepare_unless_replaced()
+        match self.replica.prepare_unless_replaced() {
+            Ok(()) => Ok(()),
+            Err(refusal) => {
+                if refusal.is_want_of_memory() {
+                    return Err(refusal);
+                }
+                Err(self.replica.preparation_fault())
+            }
+        }
     }
 
     ghost past_counts = { λ r past stands. deferring_past_counts r past stands };

@@ -6,6 +6,7 @@ mod beginning;
 mod deferring_replica;
 mod epoch_member;
 mod epoch_replica;
+mod heard;
 mod item;
 mod keeping;
 pub mod limits;

@@ -3,5 +3,9 @@
 /// So many ticks go by before a replica asks for a log again, and before it tells the same node a past log again.
 pub const ASK_TICKS: u64 = 50;
 
+/// So many ticks a token counts as heard that a node said where it asked. It is twice as long as a node waits between
+/// two asks, so that one of these may be lost.
+pub const HEARD_TICKS: u64 = 100;
+
 /// So many requests are held for the next epoch, at most: one for each session of a node.
 pub const DEFERRED_REQUESTS: usize = 8;

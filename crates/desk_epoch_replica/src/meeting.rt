@@ -3,21 +3,25 @@
 ghost use Rattle.std.specs.Prelude.{◌≡◌, if◌then◌else◌, false, List, None, IfOk, OnErr};
 ghost use Rattle.desk_types.specs.declared.command.Entry.{Entry as AnEntry};
 ghost use Rattle.desk_types.specs.EpochPackets.{goes_by_rules};
+ghost use Rattle.desk_types.specs.declared.refusal.Refusal.TheVariants as refusals;
+ghost use Rattle.desk_epoch_node.specs.declared.step.EpochStep.TheVariants as steps;
 ghost use Rattle.desk_epoch_node.specs.PastRows.{StandFor};
 ghost use Rattle.desk_epoch_node.specs.Deeds.{deed};
 ghost use Rattle.desk_epoch_node.specs.Does.{DoesDeed};
 ghost use Rattle.desk_epoch_replica.specs.declared.item.EpochItem.TheVariants as items;
 ghost use Rattle.desk_epoch_replica.specs.Follows.{EpochFollows};
 ghost use Rattle.desk_epoch_replica.specs.Items.{MemberMeets, begins_epoch, hears_primary, is_tell};
+ghost use Rattle.desk_epoch_replica.specs.Items.{refuses_replacement};
 ghost use Rattle.desk_epoch_replica.specs.Steps.{reported_log};
 
 use crate::epoch_member::EpochMember;
+use crate::heard::{age_rows, asker, hears, note_asker};
 use crate::item::EpochItem;
 use crate::limits::ASK_TICKS;
 use crate::ticking::{one_more, tick_event, tick_rows};
-use desk_epoch_node::{EpochEvent, EpochStep};
+use desk_epoch_node::{EpochEvent, EpochStep, named_by};
 use desk_types::limits::SUSPECT_TICKS;
-use desk_types::{Entry, EpochPacket, Purpose, WantOfMemory};
+use desk_types::{Entry, EpochPacket, Purpose, Refusal, WantOfMemory};
 
 /// Whether a packet follows the rules of its epoch.
 fn is_step(purpose: Purpose) -> bool
@@ -49,6 +53,19 @@ fn begins_epoch(made: &EpochStep) -> bool
     }
 }
 
+/// The refusal of a request that names a node which was not heard.
+fn refuse_unheard(entry: Entry) -> EpochStep
+    ensures { result ≡ steps.Refused entry.client entry.number refusals.MemberUnheard }
+{
+    let (client, number) = (entry.client, entry.number);
+    drop(entry);
+    EpochStep::Refused {
+        client,
+        number,
+        refusal: Refusal::MemberUnheard,
+    }
+}
+
 impl EpochMember {
     /// The node deals with an event. Where memory is refused nothing changes.
     fn step(&mut self, event: EpochEvent) -> Result<EpochStep, WantOfMemory>
@@ -60,6 +77,7 @@ impl EpochMember {
           ticks = self.old.ticks;
           ask_ticks = self.old.ask_ticks;
           tell_ticks = self.old.tell_ticks;
+          heard = self.old.heard;
           refused = self.old.refused;
         }) }
         ensures err { OnErr result (self.new ≡ self.old) }
@@ -84,11 +102,25 @@ impl EpochMember {
           ticks = if again then 0 else self.old.ticks;
           ask_ticks = self.old.ask_ticks;
           tell_ticks = self.old.tell_ticks;
+          heard = self.old.heard;
           refused = self.old.refused;
         } }
     {
         if again {
             self.ticks = 0;
+        }
+    }
+
+    /// Whether a request for a replacement is refused: the node would put it last, and has not heard who is named.
+    fn refuses_replacement(&self, entry: &Entry) -> bool
+        ensures { (past : List AnEntry) → StandFor past self.now.node.past →
+            result ≡ refuses_replacement past self.now entry.now }
+    {
+        match named_by(entry) {
+            Some(named) => {
+                !hears(&self.heard, named.node, named.token) && self.node.appends(entry)
+            }
+            None => false,
         }
     }
 
@@ -98,6 +130,9 @@ impl EpochMember {
         ensures follows { IfOk result (λ made. EpochFollows (reported_log made) self.old.node self.new.node) }
         ensures err { OnErr result (self.new ≡ self.old) }
     {
+        if self.refuses_replacement(&entry) {
+            return Ok(refuse_unheard(entry));
+        }
         self.step(EpochEvent::Request(entry))
     }
 
@@ -113,7 +148,9 @@ impl EpochMember {
             drop(packet);
             return Ok(EpochStep::Nothing);
         }
+        let asked = asker(&packet);
         let made = self.step(EpochEvent::Packet(packet))?;
+        note_asker(&mut self.heard, asked);
         let again = begins_epoch(&made) || self.hears_primary(purpose, epoch, from);
         self.count_again(again);
         Ok(made)
@@ -134,6 +171,7 @@ impl EpochMember {
         };
         self.ask_ticks = one_more(ASK_TICKS, self.ask_ticks);
         tick_rows(&mut self.tell_ticks);
+        age_rows(&mut self.heard);
         Ok(made)
     }
 

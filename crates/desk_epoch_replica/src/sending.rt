@@ -50,6 +50,7 @@ impl EpochMember {
           ticks = self.old.ticks;
           ask_ticks = if may_ask self.old.ask_ticks then 0 else self.old.ask_ticks;
           tell_ticks = self.old.tell_ticks;
+          heard = self.old.heard;
           refused = self.old.refused;
         } }
     {

@@ -3,7 +3,7 @@
 ghost use Rattle.std.specs.Prelude.{◌≡◌, map, replicate, IfOk};
 ghost use Rattle.desk_epoch_replica.specs.declared.limits.TheConstants.{ASK_TICKS};
 ghost use Rattle.desk_epoch_replica.specs.Items.{event_of_tick};
-ghost use Rattle.desk_epoch_replica.specs.MemberValue.{one_more_up_to};
+ghost use Rattle.desk_epoch_replica.specs.Ticks.{one_more_up_to};
 ghost use Rattle.desk_epoch_replica.specs.Steps.{may_tell};
 
 use crate::limits::ASK_TICKS;

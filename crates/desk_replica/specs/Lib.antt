@@ -1,4 +1,5 @@
 pub mod Answers
+pub mod Endings
 pub mod EpochPackets
 pub mod Saving
 pub mod Owners

@@ -4,6 +4,7 @@ use mathlib.Core.List.{IsPrefix}
 use Rattle.desk_types.specs.declared.command.Entry.{Entry}
 use Rattle.desk_types.specs.declared.owner.Owner.{Owner}
 use Rattle.desk_types.specs.declared.epoch_packet.EpochPacket.{EpochPacket}
+use Rattle.desk_types.specs.declared.refusal.Refusal.{Refusal}
 
 -- of a replica: whose it is; which entries are the logs of its past, one after the other, and how many these are; the
 -- log after them that another node reported to it, as long as not all of that is published, and what it has committed
@@ -11,8 +12,8 @@ use Rattle.desk_types.specs.declared.epoch_packet.EpochPacket.{EpochPacket}
 -- save, and by one that failed; what its store is to keep from one moment to a later one; what it becomes where it
 -- forgets the log that was reported; whether it may begin the next epoch, and what it becomes where it begins it, for
 -- which these packets go out; what it becomes where it prepares a beginning, or memory is refused for that, and whether
--- one is prepared; and what it becomes where one of the two fails. A proof that entries are its past has one value at
--- most, and so has one that it is saved.
+-- one is prepared; and what it becomes where one of the two fails by a refusal that ends it. A proof that entries are
+-- its past has one value at most, and so has one that it is saved.
 pub record Saving (R : Type 0) : Type 1 where
   pub owner : R → Owner
   pub stands : R → List Entry → Type 0
@@ -28,7 +29,7 @@ pub record Saving (R : Type 0) : Type 1 where
   pub begins : R → List (ℕ × EpochPacket) → R → Type 0
   pub prepares : R → R → Type 0
   pub is_ready : R → Type 0
-  pub stops : R → R → Type 0
+  pub stops : Refusal → R → R → Type 0
   pub stands_prop : (r : R) (past : List Entry) → IsProp (stands r past)
   pub saved_prop : (r : R) → IsProp (is_saved r)
 

@@ -16,6 +16,7 @@ pub trait SavedReplica: Replica {
     ghost use Rattle.desk_replica.specs.EpochPackets.{packets_of_step};
     ghost use Rattle.desk_replica.specs.Saving.{Saving, LogsGoOn, ForgetsReported};
     ghost use Rattle.desk_replica.specs.Saving.{BeginsEpoch, HasSameLogs, StaysSaved};
+    ghost use Rattle.desk_replica.specs.Endings.{IsEndingRefusal};
 
     /// Its logs, and what its saves make of it.
     ghost saving: { Saving Self };
@@ -47,23 +48,26 @@ pub trait SavedReplica: Replica {
 
     /// Begins the next epoch where that is due and no log is reported to it, and saves its first state. The caller has
     /// published all that it has committed. Ok is what goes out after that. At `WantOfMemory` nothing changes, and it
-    /// may be tried again. At any other refusal it cannot go on, and nothing goes out.
+    /// may be tried again. At `StoreFault` the save failed: it cannot go on, and nothing goes out.
     fn begin_next(&mut self) -> Result<Option<ItemStep>, Refusal>
         requires { saving.is_saved self.old }
         ensures begun { IfOk result (λ begun. MatchOption begun (self.new ≡ self.old)
             (λ step. saving.begins self.old (packets_of_step step) self.new)) }
         ensures waits { IfOk result (λ begun. begun ≡ None → saving.may_begin self.old ≡ false) }
         ensures refused { IfErr result (λ r. MatchBool (is_want_of_memory r) (self.new ≡ self.old)
-            (saving.stops self.old self.new × (BeginsEpoch saving self.old self.new
-            ⊎ HasSameLogs saving self.old self.new))) };
+            (saving.stops r self.old self.new × (BeginsEpoch saving self.old self.new
+            ⊎ HasSameLogs saving self.old self.new))) }
+        ensures fault { IfErr result (λ r. (r ≡ refusals.WantOfMemory) ⊎ (r ≡ refusals.StoreFault)) };
 
     /// Opens what the next beginning needs. Its state and its logs are as they were. At `WantOfMemory` it may be tried
-    /// again. At any other refusal it cannot go on.
+    /// again. It cannot go on at `StoreFault`, where a store failed, or at `NodeStopped`, where another node acts in
+    /// its place.
     fn prepare(&mut self) -> Result<(), Refusal>
         ensures prepared { OnOk result (saving.prepares self.old self.new) }
         ensures ready { OnOk result (saving.is_ready self.new) }
         ensures refused { IfErr result (λ r. MatchBool (is_want_of_memory r) (saving.prepares self.old self.new)
-            (saving.stops self.old self.new × HasSameLogs saving self.old self.new)) };
+            (saving.stops r self.old self.new × HasSameLogs saving self.old self.new)) }
+        ensures fault { IfErr result (λ r. (r ≡ refusals.WantOfMemory) ⊎ IsEndingRefusal r) };
 
     /// The logs of its past have so many entries.
     ghost past_counts: { (r : Self) (past : List AnEntry) → saving.stands r past → length past ≡ saving.base r };

@@ -2,13 +2,12 @@
 use Rattle.std.proofs.Common.{◌≡◌, ◌++◌, inl, inr, ℕ, Bool, false, List, [], ◌∷◌, refl, sym, ◌∙◌, subst}
 use Rattle.desk_types.specs.declared.epoch_packet.EpochPacket.{EpochPacket}
 use Rattle.desk_types.specs.declared.refusal.Refusal.{Refusal}
-use Rattle.desk_types.specs.declared.refusal.Refusal.TheVariants as refusals
 use Rattle.desk_mailbox.specs.declared.item.Item.{Item}
 use Rattle.desk_mailbox.specs.declared.rule.SentItem.{SentItem}
 use Rattle.desk_replica.specs.declared.replica.Replica.{Ghosts as ReplicaGhosts}
 use Rattle.desk_replica.specs.Saving.{Saving, MayBegin, MayPrepare, StaysSaved}
 use Rattle.desk_threads.specs.declared.handing.Out.{Ghosts}
-use Rattle.desk_threads.specs.Runs.{AdvancesBetween, FailsInTurn, RanInTurns, RanToTurn, Stand}
+use Rattle.desk_threads.specs.Runs.{AdvancesBetween, EndsFirstBy, FailsInTurn, RanInTurns, RanToTurn, Stand}
 use Rattle.desk_threads.specs.Runs.{TakesLast, TakesTurn, items_in}
 use Rattle.desk_threads.proofs.Histories.{AdvanceLaws}
 use Rattle.desk_threads.proofs.KeeperRuns.{KeepsFurther, KeepsStill, TakesNone}
@@ -89,22 +88,29 @@ turn_advanced_stays g h s last further still followed saved laws most turn old e
 -- What failed in a turn ends a run.
 pub turn_failed : {O R : Type 0} (g : Ghosts O) (h : ReplicaGhosts R) (s : Saving R) (most : ℕ)
     (b m a : List (SentItem Item)) (x : SentItem Item) (old mid new : Stand O R) → m ≡ b ++ x ∷ [] → mid ≡ old →
-    FailsInTurn g h s most x.item m mid a new → (fault : Refusal) → fault ≡ refusals.StoreFault →
-    RanToTurn g h s most fault b old a new
-turn_failed g h s most b m a x old mid new taken same
-    (sent, then, inl (few, early, out, still, reported, unsaved)) fault is = (
+    (fault : Refusal) → FailsInTurn g h s most fault x.item m mid a new → RanToTurn g h s most fault b old a new
+turn_failed g h s most b m a x old mid new taken same fault
+    (sent, then, inl (is, few, early, out, still, reported, unsaved)) = (
       b,
       old,
       turns_none g h s most b old,
       inl (took_last h s most fault b m a x old mid new taken same
           (sent, few, early, then, out, still, reported, unsaved) is),
     )
-turn_failed g h s most b m a x old mid new taken same (sent, then, inr (end, between, one, on, stops)) fault is = (
+turn_failed g h s most b m a x old mid new taken same fault (sent, then, inr (end, between, one, on, stops)) = (
   a,
   between,
   turns_one g h s most b m a x old mid end between taken same (sent, then, one) on,
   inr (refl, stops),
 )
+
+-- What failed in a turn is what the keeper ends by.
+pub fails_first : {O R : Type 0} (g : Ghosts O) (h : ReplicaGhosts R) (s : Saving R) (most : ℕ) (fault : Refusal)
+    (item : Item) (taken taken_now : List (SentItem Item)) (old new : Stand O R) →
+    FailsInTurn g h s most fault item taken old taken_now new → EndsFirstBy s fault new.replica
+fails_first g h s most fault item taken taken_now old new (sent, then, inl unsaved) = inl unsaved.0
+fails_first g h s most fault item taken taken_now old new (sent, then, inr (end, mid, one, on, stops)) =
+    inr (mid.replica, stops.stops)
 
 -- A last turn ends a run too.
 pub last_turn : {O R : Type 0} (g : Ghosts O) (h : ReplicaGhosts R) (s : Saving R) (most : ℕ) (fault : Refusal)

@@ -1,7 +1,7 @@
 -- What a replica has committed, as it goes on and is published.
 use Rattle.std.proofs.Common.{◌≡◌, ◌≢◌, ◌≤◌, ◌++◌, ◌∙◌, ℕ, zero, suc, List, [], ◌∷◌, length, take, refl, sym, ap}
 use Rattle.std.proofs.Common.{subst, append_assoc, append-nil, arith, length-append, ◌⊎◌, inl, inr}
-use Rattle.std.proofs.Common.{drop, Bool, true, false}
+use Rattle.std.proofs.Common.{drop}
 use mathlib.Core.List.{IsPrefix}
 use Rattle.desk_types.specs.declared.command.Entry.{Entry}
 use Rattle.desk_types.specs.declared.epoch_packet.EpochPacket.{EpochPacket}
@@ -419,8 +419,3 @@ entered_reached s old new noted shown (inl b) of few all =
       length-append (s.reported old) (s.cut old),
     )
 entered_reached s old new noted shown (inr same) of few all = subst (λ n. n ≤ length shown) (sym same.base) few
-
--- by the two values of a test
-pub by_test : (b : Bool) (P : Type 0) → (b ≡ true → P) → (b ≡ false → P) → P
-by_test true P f g = f refl
-by_test false P f g = g refl

@@ -1,4 +1,5 @@
 pub mod StoredAnswers
+pub mod StoppedOutcomes
 pub mod PublishedPrefixes
 pub mod OutcomeAnswers
 pub mod Histories

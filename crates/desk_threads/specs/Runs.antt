@@ -151,32 +151,38 @@ pub record TakesLast {O R : Type 0} (h : ReplicaGhosts R) (s : Saving R) (most :
   pub reported : TellsOfStop old.published (items_in turn) old.waiting new.waiting
   pub unsaved : IsUnsaved h s fault (items_in turn) old.replica new.replica
 
--- The keeper could not begin the next epoch, or prepare a beginning: nothing of that went out or was published, and all
--- that waited were refused.
-pub record StopsBetween {O R : Type 0} (s : Saving R) (old new : Stand O R) : Type 0 where
-  pub stops : s.stops old.replica new.replica
+-- The keeper could not begin the next epoch, or prepare a beginning, by this refusal: nothing of that went out or was
+-- published, and all that waited were refused.
+pub record StopsBetween {O R : Type 0} (s : Saving R) (fault : Refusal) (old new : Stand O R) : Type 0 where
+  pub stops : s.stops fault old.replica new.replica
   pub silent : new.out ≡ old.out
   pub unpublished : new.published ≡ old.published
   pub reported : TellsOfStop old.published [] old.waiting new.waiting
 
--- A turn that begins with an item that was taken failed: its save did, and nothing of it went out or was published; or
--- it was saved, and then the keeper could not advance.
-abbrev pub FailsInTurn : {O R : Type 0} → Ghosts O → ReplicaGhosts R → Saving R → ℕ → Item → List (SentItem Item) →
-    Stand O R → List (SentItem Item) → Stand O R → Type 0
-FailsInTurn {O} {R} g h s most item taken old taken_now new =
+-- A turn that begins with an item that was taken failed: its save did, by `StoreFault`, and nothing of it went out or
+-- was published; or it was saved, and then the keeper could not advance, by this refusal.
+abbrev pub FailsInTurn : {O R : Type 0} → Ghosts O → ReplicaGhosts R → Saving R → ℕ → Refusal → Item →
+    List (SentItem Item) → Stand O R → List (SentItem Item) → Stand O R → Type 0
+FailsInTurn {O} {R} g h s most fault item taken old taken_now new =
     (sent : List (SentItem Item)) × (taken_now ≡ taken ++ sent)
-    × (((length sent < most) × OnlyLastEnds (item ∷ items_in sent) × (new.out ≡ old.out)
-    × (new.published ≡ old.published) × TellsOfStop old.published (item ∷ items_in sent) old.waiting new.waiting
+    × (((fault ≡ refusals.StoreFault) × (length sent < most) × OnlyLastEnds (item ∷ items_in sent)
+    × (new.out ≡ old.out) × (new.published ≡ old.published)
+    × TellsOfStop old.published (item ∷ items_in sent) old.waiting new.waiting
     × MeetsAndFails h s old.replica (item ∷ items_in sent) new.replica)
     ⊎ ((end : Stand O R) × (mid : Stand O R) × TakesTurn g h s most (item ∷ items_in sent) old end
-    × AdvancesBetween g s end mid × StopsBetween s mid new))
+    × AdvancesBetween g s end mid × StopsBetween s fault mid new))
 
--- More was taken, in turns up to such a last one; or all was taken in turns, and then the keeper could not advance.
+-- by what a keeper that ran ends first: a save failed, or its replica was stopped by this refusal as it advanced
+abbrev pub EndsFirstBy : {R : Type 0} → Saving R → Refusal → R → Type 0
+EndsFirstBy {R} s fault new = (fault ≡ refusals.StoreFault) ⊎ ((old : R) × s.stops fault old new)
+
+-- More was taken, in turns up to such a last one; or all was taken in turns, and then the keeper could not advance, by
+-- this refusal.
 abbrev pub RanToTurn : {O R : Type 0} → Ghosts O → ReplicaGhosts R → Saving R → ℕ → Refusal → List (SentItem Item) →
     Stand O R → List (SentItem Item) → Stand O R → Type 0
 RanToTurn {O} {R} g h s most fault taken old taken_now new =
     (before : List (SentItem Item)) × (end : Stand O R) × RanInTurns g h s most taken old before end
-    × (TakesLast h s most fault before end taken_now new ⊎ ((taken_now ≡ before) × StopsBetween s end new))
+    × (TakesLast h s most fault before end taken_now new ⊎ ((taken_now ≡ before) × StopsBetween s fault end new))
 
 -- The last that was taken was not saved.
 abbrev pub TakesLastItem : {O R : Type 0} → ReplicaGhosts R → Saving R → Refusal → List (SentItem Item) → Stand O R →
@@ -186,11 +192,11 @@ TakesLastItem h s fault before end taken_now new =
     × IsUnsaved h s fault (last.item ∷ []) end.replica new.replica
 
 -- More was taken; it ran so up to the last of it, and what the store is to keep stood till then. The last was not
--- saved, and nothing of it went out; or all of it ran so, and then the keeper could not advance.
+-- saved, and nothing of it went out; or all of it ran so, and then the keeper could not advance, by this refusal.
 abbrev pub RanToLast : {O R : Type 0} → Ghosts O → ReplicaGhosts R → Saving R → Refusal → List (SentItem Item) →
     Stand O R → List (SentItem Item) → Stand O R → Type 0
 RanToLast {O} {R} g h s fault taken old taken_now new =
     (before : List (SentItem Item)) × (end : Stand O R)
     × Ran g h s taken old.replica old.out before end.replica new.out × s.keeps old.replica end.replica
     × (TakesLastItem h s fault before end taken_now new
-    ⊎ ((taken_now ≡ before) × s.stops end.replica new.replica))
+    ⊎ ((taken_now ≡ before) × s.stops fault end.replica new.replica))

@@ -69,7 +69,7 @@ node_saving g = record {
   begins = λ old packets new. ⊥;
   is_ready = λ r. Unit {0};
   prepares = λ old new. new ≡ old;
-  stops = λ old new. ⊥;
+  stops = λ fault old new. ⊥;
   stands_prop = λ r past. no_past_prop past;
   saved_prop = λ r. IsSavedNode-prop g r;
 }

@@ -1,9 +1,11 @@
 //! A keeper at its start, with those who put items and those who read.
 
-ghost use Rattle.std.specs.Prelude.{◌≡◌, ◌<◌, ◌++◌, ◌∷◌, true, false, [], length, replicate, All, IfOk};
+ghost use Rattle.std.specs.Prelude.{◌≡◌, ◌<◌, ◌⊎◌, ◌++◌, ◌∷◌, true, false, [], length, replicate, All, IfOk, IfErr};
 ghost use Rattle.desk_types.specs.Group.{IsGroup};
+ghost use Rattle.desk_types.specs.declared.refusal.Refusal.TheVariants as refusals;
 ghost use Rattle.desk_log.specs.SavedValue.{committed_entries};
 ghost use Rattle.desk_published.specs.Writer.{EqualsPrefix, published};
+ghost use Rattle.desk_replica.specs.Endings.{IsEndingRefusal};
 ghost use Rattle.desk_replica.specs.Saving.{MayPrepare};
 ghost use Rattle.desk_threads.specs.Noted.{IsNoted, replica_history};
 ghost use Rattle.desk_threads.specs.Waiting.{idle};
@@ -162,7 +164,8 @@ fn open_front<B: BoardName>(
 /// read. Sender k has number k, from 0, and none of the sessions has asked anything. The k-th end of a session belongs
 /// to sender k, which no clause says of its channel. What the next beginning of the replica needs is opened here; where
 /// memory is refused to that, after a turn. Err is `WantOfMemory` where there is no memory for the mailbox or the
-/// sessions, and `StoreFault` where the beginning could not be prepared.
+/// sessions, and else what stops the replica: `StoreFault` where the beginning could not be prepared, and `NodeStopped`
+/// where another node acts in its place.
 pub fn open_replica<B: BoardName, R: SavedReplica + Drop, W: Wait>(
     rt: &W,
     alloc: Global,
@@ -188,6 +191,9 @@ pub fn open_replica<B: BoardName, R: SavedReplica + Drop, W: Wait>(
     ensures sessions_count { IfOk result (λ ends. length ends.2.items ≡ SESSIONS) }
     ensures readers { IfOk result (λ ends. All (λ s. s.reader.pass ≡ published ends.0.writer.inner)
         ends.2.items) }
+    ensures refused { IfErr result (λ r. (r ≡ refusals.WantOfMemory)
+        ⊎ ((end : R) × R.SavedReplica.saving.stops r replica end)) }
+    ensures fault { IfErr result (λ r. (r ≡ refusals.WantOfMemory) ⊎ IsEndingRefusal r) }
 {
     let Ok(front) = open_front(alloc, &writer) else {
         writer.end(rt);
@@ -210,11 +216,13 @@ pub fn open_replica<B: BoardName, R: SavedReplica + Drop, W: Wait>(
         alloc,
     };
     let (keeper, prepared) = keeper.prepare(rt);
-    if !prepared {
-        let (_taker, _replica) = keeper.end(rt);
-        return Err(Refusal::StoreFault);
+    match prepared {
+        Ok(()) => Ok((keeper, senders, sessions)),
+        Err(refusal) => {
+            let (_taker, _replica) = keeper.end(rt);
+            Err(refusal)
+        }
     }
-    Ok((keeper, senders, sessions))
 }
 
 /// A keeper of a node whose state the store saved last, with the senders of its mailbox, which holds `MAILBOX_ITEMS`

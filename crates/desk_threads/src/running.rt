@@ -3,12 +3,12 @@
 ghost use Rattle.std.specs.Prelude.{◌≡◌, ◌<◌, ◌++◌, ◌∷◌, [], List, true, false, not, is_some};
 ghost use Rattle.std.specs.Prelude.{IfOk, IfErr, OnOk, OnErr, MatchOption};
 ghost use Rattle.desk_mailbox.specs.Ends.{taken_by, no_sender_left, IsSameTaker};
-ghost use Rattle.desk_types.specs.Refusal.{IsStoreRefusal};
 ghost use Rattle.desk_types.specs.declared.refusal.Refusal.TheVariants as refusals;
 ghost use Rattle.desk_published.specs.Writer.{published};
 ghost use Rattle.desk_threads.specs.Runs.{Ran, RanToLast, stand, RanInTurns, RanToEnd, RanToTurn};
-ghost use Rattle.desk_threads.specs.Runs.{HasRunOut, AdvancesBetween, EndsInStop, FailsInTurn, Stand, TakesTurn};
-ghost use Rattle.desk_threads.specs.Runs.{items_in};
+ghost use Rattle.desk_threads.specs.Runs.{HasRunOut, AdvancesBetween, EndsFirstBy, EndsInStop, FailsInTurn, Stand};
+ghost use Rattle.desk_threads.specs.Runs.{TakesTurn, items_in};
+ghost use Rattle.desk_replica.specs.Endings.{IsEndingRefusal};
 ghost use Rattle.desk_replica.specs.Saving.{StaysSaved};
 
 use crate::handing::Out;
@@ -73,13 +73,13 @@ impl<B: BoardName, R: SavedReplica> Keeper<B, R> {
             (published result.0.writer.inner) result.0.all_published out.new)) }
         ensures stopped { IfOk result.1 (λ more. more ≡ false → (sent : List _)
             × (taken_by result.0.taker ≡ taken_by self.taker ++ sent) × EndsInStop (item ∷ items_in sent)) }
-        ensures failed { OnErr result.1 (FailsInTurn O.Out R.Replica R.SavedReplica.saving most item
+        ensures failed { IfErr result.1 (λ r. FailsInTurn O.Out R.Replica R.SavedReplica.saving most r item
             (taken_by self.taker) (stand self.replica self.waiting (published self.writer.inner)
             self.all_published out.old) (taken_by result.0.taker) (stand result.0.replica result.0.waiting
             (published result.0.writer.inner) result.0.all_published out.new)) }
         ensures running { OnOk result.1 (result.0.stopped ≡ false) }
         ensures stops { OnErr result.1 (result.0.stopped ≡ true) }
-        ensures fault { IfErr result.1 (λ r. r ≡ refusals.StoreFault) }
+        ensures fault { IfErr result.1 IsEndingRefusal }
     {
         let (keeper, outcome) = self.serve_turn(rt, item, most, out);
         let more = match outcome {
@@ -122,8 +122,9 @@ impl<B: BoardName, R: SavedReplica> Keeper<B, R> {
             result.0.all_published out.new)) }
         ensures saved { self.stopped ≡ false → OnOk result.1 ((result.0.stopped ≡ false)
             × StaysSaved R.SavedReplica.saving self.replica result.0.replica) }
-        ensures fault { IfErr result.1 IsStoreRefusal }
-        ensures first { self.stopped ≡ false → IfErr result.1 (λ r. r ≡ refusals.StoreFault) }
+        ensures fault { IfErr result.1 IsEndingRefusal }
+        ensures first { self.stopped ≡ false → IfErr result.1 (λ r. EndsFirstBy R.SavedReplica.saving r
+            result.0.replica) }
         ensures after { self.stopped ≡ true → IfErr result.1 (λ r. r ≡ refusals.NodeStopped) }
         ensures stops { OnErr result.1 (result.0.stopped ≡ true) }
         ensures still { OnOk result.1 (result.0.stopped ≡ self.stopped) }
@@ -153,8 +154,9 @@ impl<B: BoardName, R: SavedReplica> Keeper<B, R> {
     /// carry a log end their turn. An item that is refused for want of memory is counted, and ends nothing. After a
     /// turn that was saved the keeper begins the next epoch, where that is due and all is published, and prepares the
     /// beginning after that. Err is `StoreFault`, where the save of the last turn failed, or `NodeStopped` where the
-    /// store had failed before; then nothing of the last turn went out or was published, and no session heard an answer
-    /// of it. It is `StoreFault` too where a beginning failed, or could not be prepared; nothing of that went out.
+    /// keeper had ended before; then nothing of the last turn went out or was published, and no session heard an answer
+    /// of it. Err is what stopped the replica where a beginning failed, or could not be prepared: `StoreFault`, or
+    /// `NodeStopped` where another node acts in its place; nothing of that went out.
     pub fn run_turns<W: Wait, O: Out>(
         self,
         rt: &W,
@@ -180,9 +182,10 @@ impl<B: BoardName, R: SavedReplica> Keeper<B, R> {
             result.0.all_published out.new)) }
         ensures saved { self.stopped ≡ false → OnOk result.1 ((result.0.stopped ≡ false)
             × StaysSaved R.SavedReplica.saving self.replica result.0.replica) }
-        ensures fault { IfErr result.1 IsStoreRefusal }
-        // The first fault is `StoreFault`, and from then on it is `NodeStopped`.
-        ensures first { self.stopped ≡ false → IfErr result.1 (λ r. r ≡ refusals.StoreFault) }
+        ensures fault { IfErr result.1 IsEndingRefusal }
+        // The first fault is `StoreFault`, or what stops the replica as it advances. From then on it is `NodeStopped`.
+        ensures first { self.stopped ≡ false → IfErr result.1 (λ r. EndsFirstBy R.SavedReplica.saving r
+            result.0.replica) }
         ensures after { self.stopped ≡ true → IfErr result.1 (λ r. r ≡ refusals.NodeStopped) }
         ensures stops { OnErr result.1 (result.0.stopped ≡ true) }
     {
@@ -202,8 +205,9 @@ impl<B: BoardName, R: SavedReplica> Keeper<B, R> {
     /// Takes and does items until `Stop`, or until no sender is left, each with a save of its own; it waits while the
     /// mailbox is empty. An item that is refused for want of memory is counted, and ends nothing. After an item whose
     /// state was saved the keeper advances, as in `run_turns`. Err is `StoreFault`, where the save of the last item
-    /// failed, or `NodeStopped` where the store had failed before; then nothing of that item went out or was published.
-    /// It is `StoreFault` too where a beginning failed, or could not be prepared; nothing of that went out.
+    /// failed, or `NodeStopped` where the keeper had ended before; then nothing of that item went out or was published.
+    /// Err is what stopped the replica where a beginning failed, or could not be prepared: `StoreFault`, or
+    /// `NodeStopped` where another node acts in its place; nothing of that went out.
     pub fn run<W: Wait, O: Out>(self, rt: &W, out: &mut O) -> (Keeper<B, R>, Result<(), Refusal>)
         ensures same { IsSameTaker self.taker result.0.taker }
         ensures did { OnOk result.1 (Ran O.Out R.Replica R.SavedReplica.saving (taken_by self.taker)
@@ -229,9 +233,10 @@ impl<B: BoardName, R: SavedReplica> Keeper<B, R> {
             result.0.all_published out.new)) }
         ensures saved { self.stopped ≡ false → OnOk result.1 ((result.0.stopped ≡ false)
             × StaysSaved R.SavedReplica.saving self.replica result.0.replica) }
-        ensures fault { IfErr result.1 IsStoreRefusal }
-        // The first fault is `StoreFault`, and from then on it is `NodeStopped`.
-        ensures first { self.stopped ≡ false → IfErr result.1 (λ r. r ≡ refusals.StoreFault) }
+        ensures fault { IfErr result.1 IsEndingRefusal }
+        // The first fault is `StoreFault`, or what stops the replica as it advances. From then on it is `NodeStopped`.
+        ensures first { self.stopped ≡ false → IfErr result.1 (λ r. EndsFirstBy R.SavedReplica.saving r
+            result.0.replica) }
         ensures after { self.stopped ≡ true → IfErr result.1 (λ r. r ≡ refusals.NodeStopped) }
         ensures stops { OnErr result.1 (result.0.stopped ≡ true) }
     {

@@ -1,5 +1,7 @@
 use Rattle.std.proofs.Common.{◌∙◌, ap, subst, sym}
+use Rattle.desk_epoch_node.specs.EpochValue.{standing_of}
 use Rattle.desk_epoch_replica.specs.MemberValue.{MemberValue}
+use Rattle.desk_epoch_replica.specs.ReplicaValue.{was_replaced}
 use Rattle.desk_published.specs.Writer.{published}
 use Rattle.desk_epoch_opening.specs.Pasts.{past_in}
 use Rattle.desk_epoch_opening.specs.Opened.{IsOpened}
@@ -104,3 +106,10 @@ returns-in-Ok-open_replica-clause-deferred g c =
     (stays_started g.T.EpochStores.may_hold g.T.Store.StateStore c.in-Ok-start_replica.replica
     c.in-Ok-open_replica.ends.0.replica c.in-Ok-open_replica.ensures.replica).deferred_is
     ∙ c.in-Ok-start_replica.ensures.deferred
+
+pub returns-in-Ok-open_replica-clause-acting : goal.returns-in-Ok-open_replica-clause-acting
+returns-in-Ok-open_replica-clause-acting g c =
+    ap (λ (m : MemberValue). was_replaced (standing_of m.node))
+    (stays_started g.T.EpochStores.may_hold g.T.Store.StateStore c.in-Ok-start_replica.replica
+    c.in-Ok-open_replica.ends.0.replica c.in-Ok-open_replica.ensures.replica).member_is
+    ∙ c.in-Ok-start_replica.ensures.acting

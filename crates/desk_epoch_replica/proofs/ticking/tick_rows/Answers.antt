@@ -2,7 +2,7 @@ use Rattle.std.proofs.Common.{rules}
 use Rattle.std.proofs.lemmas.List.Edits.{map_over_more}
 use Rattle.std.proofs.lemmas.List.{take_all, drop_all}
 use Rattle.desk_epoch_replica.specs.declared.limits.TheConstants.{ASK_TICKS}
-use Rattle.desk_epoch_replica.specs.MemberValue.{one_more_up_to}
+use Rattle.desk_epoch_replica.specs.Ticks.{one_more_up_to}
 use Rattle.desk_epoch_replica.proofs.ticking.tick_rows.Goals as goal
 
 pub loop-row-preserved : goal.loop-row-preserved

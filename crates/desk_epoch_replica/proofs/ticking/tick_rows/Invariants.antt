@@ -1,6 +1,6 @@
 use Rattle.std.proofs.Common.{◌≡◌, ◌++◌, map, take, drop}
 use Rattle.desk_epoch_replica.specs.declared.limits.TheConstants.{ASK_TICKS}
-use Rattle.desk_epoch_replica.specs.MemberValue.{one_more_up_to}
+use Rattle.desk_epoch_replica.specs.Ticks.{one_more_up_to}
 use Rattle.desk_epoch_replica.proofs.ticking.tick_rows.Given as goal
 
 abbrev pub invariant-loop-row : goal.invariant-loop-row

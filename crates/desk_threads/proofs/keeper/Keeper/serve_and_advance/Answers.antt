@@ -2,13 +2,14 @@ use Rattle.std.proofs.Common.{ap, inl, inr, ◌∙◌}
 use Rattle.desk_mailbox.specs.Ends.{taken_by}
 use Rattle.desk_published.specs.Writer.{published}
 use Rattle.desk_threads.specs.Runs.{stand}
-use Rattle.desk_threads.proofs.KeeperRuns.{if_ok, on_err, on_ok}
+use Rattle.desk_threads.proofs.KeeperRuns.{if_err, if_ok, on_err, on_ok}
 use Rattle.desk_threads.proofs.keeper.Keeper.serve_and_advance.Goals as goal
 
 pub returns-in-Err-clause-failed : goal.returns-in-Err-clause-failed
 returns-in-Err-clause-failed g c =
     let f = on_err c.serve_turn-keeper.result.1 _ _ c.in-Err.is c.serve_turn-keeper.ensures.failed in
-    (f.0, f.3, inl (f.1, f.2, f.4, f.5, f.6, f.7))
+    let is = if_err c.serve_turn-keeper.result.1 _ _ c.in-Err.is c.serve_turn-keeper.ensures.fault in
+    (f.0, f.3, inl (is, f.1, f.2, f.4, f.5, f.6, f.7))
 
 pub returns-in-Ok-outcome-clause-did : goal.returns-in-Ok-outcome-clause-did
 returns-in-Ok-outcome-clause-did g c =
@@ -32,7 +33,7 @@ returns-in-Ok-outcome-clause-stopped g c = λ stops.
 pub returns-in-Err-outcome-clause-failed : goal.returns-in-Err-outcome-clause-failed
 returns-in-Err-outcome-clause-failed g c =
     let d = on_ok c.serve_turn-keeper.result.1 _ _ c.in-Ok.is c.serve_turn-keeper.ensures.did in
-    let f = on_err c.advance-keeper.result.1 _ _ c.in-Err-outcome.is c.advance-keeper.ensures.failed in (
+    let f = if_err c.advance-keeper.result.1 _ _ c.in-Err-outcome.is c.advance-keeper.ensures.failed in (
       d.0,
       ap taken_by c.advance-keeper.ensures.taker ∙ d.1,
       inr (

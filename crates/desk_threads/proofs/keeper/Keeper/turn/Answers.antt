@@ -8,9 +8,9 @@ use Rattle.desk_replica.specs.Saving.{StaysSaved}
 use Rattle.desk_threads.proofs.KeeperRuns.{stays_same, if_some}
 use Rattle.desk_threads.proofs.KeeperTurns.{turns_stopped, turns_end, refused_last, stand_same, reported_same}
 use Rattle.desk_threads.proofs.KeeperTurns.{took_stop}
-use Rattle.desk_threads.proofs.Advances.{last_turn, turn_advanced, turn_advanced_stays, turn_failed}
+use Rattle.desk_threads.proofs.Advances.{fails_first, last_turn, turn_advanced, turn_advanced_stays, turn_failed}
 use Rattle.desk_threads.proofs.Histories.{AdvanceLaws}
-use Rattle.desk_threads.proofs.TurnSteps.{if_ok_map, if_ok_each, if_ok_both, if_err_map, on_ok_both}
+use Rattle.desk_threads.proofs.TurnSteps.{if_ok_map, if_ok_each, if_ok_both, if_err_each, on_ok_both}
 use Rattle.desk_threads.proofs.keeper.Keeper.turn.Goals as goal
 
 pub returns-in-None-clause-turns : goal.returns-in-None-clause-turns
@@ -85,8 +85,8 @@ returns-in-None-clause-ends g c = λ _.
 
 pub returns-else-keeper-clause-failed : goal.returns-else-keeper-clause-failed
 returns-else-keeper-clause-failed g c =
-    if_err_map c.serve_and_advance.result.1 _ _ _
-    (λ d fault is. turn_failed g.O.Out g.R.Replica g.R.SavedReplica.saving _ _
+    if_err_each c.serve_and_advance.result.1 _ _
+    (λ fault d. turn_failed g.O.Out g.R.Replica g.R.SavedReplica.saving _ _
     (taken_by c.take-keeper.result.0.taker) _ c.in-Some.sent _
     (stand c.take-keeper.result.0.replica c.take-keeper.result.0.waiting
     (published c.take-keeper.result.0.writer.inner) c.take-keeper.result.0.all_published c.args.out.now)
@@ -97,8 +97,19 @@ returns-else-keeper-clause-failed g c =
     (stand_same _ _ _ _ _ _ _ _ _ c.take-keeper.ensures.replica c.take-keeper.ensures.waiting
     (ap (λ (p : _). published p.inner) c.take-keeper.ensures.writer)
     c.take-keeper.ensures.all_published)
-    d fault is)
-    c.serve_and_advance.ensures.failed c.serve_and_advance.ensures.fault
+    fault d)
+    c.serve_and_advance.ensures.failed
+
+pub returns-else-keeper-clause-first : goal.returns-else-keeper-clause-first
+returns-else-keeper-clause-first g c = λ _.
+    if_err_each c.serve_and_advance.result.1 _ _
+    (λ fault. fails_first g.O.Out g.R.Replica g.R.SavedReplica.saving _ fault _ _ _
+    (stand c.take-keeper.result.0.replica c.take-keeper.result.0.waiting
+    (published c.take-keeper.result.0.writer.inner) c.take-keeper.result.0.all_published c.args.out.now)
+    (stand c.serve_and_advance.result.0.replica c.serve_and_advance.result.0.waiting
+    (published c.serve_and_advance.result.0.writer.inner) c.serve_and_advance.result.0.all_published
+    c.serve_and_advance.new.out))
+    c.serve_and_advance.ensures.failed
 
 pub returns-then-keeper-clause-failed : goal.returns-then-keeper-clause-failed
 returns-then-keeper-clause-failed g c =
