@@ -3,8 +3,10 @@
 mod beginnings;
 mod epochs;
 mod headers;
+mod keepers;
 mod keeping;
 mod memory;
+mod memory_stores;
 mod opening;
 mod replicas;
 mod stores;

@@ -1,4 +1,5 @@
-//! Node 0 of three leads an epoch of two entries, and goes over to the next. Node 1 is told the epoch's log.
+//! Node 0 of three leads an epoch of two entries, or up to a replacement, and goes over to the next. Node 1 is told the
+//! epoch's log.
 
 ghost use Rattle.std.specs.Prelude.{◌<◌};
 
@@ -14,19 +15,44 @@ use std::alloc::{AllocError, Global};
 /// What stands after the client and the number of a request to open an incident for a fire at 12 Elm St.
 const OPEN: &[u8] = b"\0\x1a\x01\0\0\0\0\x69\xa4\x2a\x40\x04fire\x0912 Elm St\0\0";
 
-fn put_request(bytes: &mut Vec<u8>, client: u64, number: u64) -> Result<(), AllocError> {
+/// What stands after the client and the number of a request to replace a node, before the number of that node and the
+/// token.
+const REPLACE: &[u8] = b"\0\x12\x11\0\0\0\0\x69\xa4\x2a\x40";
+
+/// The token that a replacement names.
+pub const TOKEN: u64 = 5;
+
+fn put_request(
+    bytes: &mut Vec<u8>,
+    client: u64,
+    number: u64,
+    rest: &[u8],
+) -> Result<(), AllocError> {
     bytes.extend_from_slice(&client.to_be_bytes())?;
     bytes.extend_from_slice(&number.to_be_bytes())?;
-    bytes.extend_from_slice(OPEN)
+    bytes.extend_from_slice(rest)
+}
+
+fn entry_of(alloc: Global, bytes: &[u8]) -> Option<Entry> {
+    match get_entry(alloc, bytes) {
+        Ok((entry, _)) => Some(entry),
+        Err(_) => None,
+    }
 }
 
 pub fn entry(alloc: Global, client: u64, number: u64) -> Option<Entry> {
     let mut bytes = Vec::new(alloc);
-    put_request(&mut bytes, client, number).ok()?;
-    match get_entry(alloc, bytes.as_slice()) {
-        Ok((entry, _)) => Some(entry),
-        Err(_) => None,
-    }
+    put_request(&mut bytes, client, number, OPEN).ok()?;
+    entry_of(alloc, bytes.as_slice())
+}
+
+/// The request 1 of client 7, which names the token for a node.
+fn replacement(alloc: Global, node: u8) -> Option<Entry> {
+    let mut bytes = Vec::new(alloc);
+    put_request(&mut bytes, 7, 1, REPLACE).ok()?;
+    bytes.push(node).ok()?;
+    bytes.extend_from_slice(&TOKEN.to_be_bytes()).ok()?;
+    entry_of(alloc, bytes.as_slice())
 }
 
 /// A node of three with a token in epoch 0, which ends after two entries.
@@ -43,12 +69,18 @@ pub fn first_node(alloc: Global, id: u8, token: u64) -> Option<EpochNode>
 pub enum Comes {
     /// The request of a client with a number.
     Request(u64, u64),
+    /// The request 1 of client 7, which names the token for a node.
+    Replace(u8),
     /// A PrepareOk of node 1 of an epoch, for a place of view 0.
     PrepareOk(u64, u64),
     /// Node 1 asks for what stands after a place of an epoch.
     Ask(u64, u64),
+    /// Node 1 asks for all of an epoch, and says its token.
+    AskAs(u64, u64),
     /// Node 2 tells the requests 1 to a number of client 7 after a place of an epoch.
     Tell(u64, u64, u64),
+    /// Node 2 tells the log of epoch 0 that has such a request alone.
+    TellReplace(u8),
     /// It is time to send again what is not acknowledged.
     Resend,
     /// It is time to go over to the next epoch.
@@ -76,9 +108,45 @@ fn entries(alloc: Global, last: u64) -> Option<Items<Entry>> {
     Some(entries)
 }
 
+/// Node 2 tells so many entries of an epoch, all of them committed, behind a place.
+fn reported(epoch: u64, base: u64, commit: u64, entries: Items<Entry>) -> Option<EpochEvent> {
+    let (from, view) = (2, 0);
+    sent(
+        epoch,
+        Purpose::Tell,
+        Message::NewState {
+            from,
+            view,
+            base,
+            commit,
+            entries,
+        },
+    )
+}
+
+/// Node 1 asks, with its token in the place of a view, for what stands after a place of an epoch.
+fn asked(epoch: u64, view: u64, base: u64) -> Option<EpochEvent> {
+    sent(
+        epoch,
+        Purpose::Ask,
+        Message::GetState {
+            from: 1,
+            view,
+            base,
+        },
+    )
+}
+
+fn replaced(alloc: Global, node: u8) -> Option<EpochEvent> {
+    let mut entries = Items::new(alloc);
+    entries.push(replacement(alloc, node)?).ok()?;
+    reported(0, 0, 1, entries)
+}
+
 pub fn event(alloc: Global, comes: Comes) -> Option<EpochEvent> {
     match comes {
         Comes::Request(client, number) => Some(EpochEvent::Request(entry(alloc, client, number)?)),
+        Comes::Replace(node) => Some(EpochEvent::Request(replacement(alloc, node)?)),
         Comes::PrepareOk(epoch, place) => {
             let (from, view) = (1, 0);
             sent(
@@ -87,25 +155,10 @@ pub fn event(alloc: Global, comes: Comes) -> Option<EpochEvent> {
                 Message::PrepareOk { from, view, place },
             )
         }
-        Comes::Ask(epoch, base) => {
-            let (from, view) = (1, 0);
-            sent(epoch, Purpose::Ask, Message::GetState { from, view, base })
-        }
-        Comes::Tell(epoch, base, last) => {
-            let entries = entries(alloc, last)?;
-            let (from, view, commit) = (2, 0, last);
-            sent(
-                epoch,
-                Purpose::Tell,
-                Message::NewState {
-                    from,
-                    view,
-                    base,
-                    commit,
-                    entries,
-                },
-            )
-        }
+        Comes::Ask(epoch, base) => asked(epoch, 0, base),
+        Comes::AskAs(epoch, token) => asked(epoch, token, 0),
+        Comes::Tell(epoch, base, last) => reported(epoch, base, last, entries(alloc, last)?),
+        Comes::TellReplace(node) => replaced(alloc, node),
         Comes::Resend => Some(EpochEvent::Resend),
         Comes::Begin => None,
     }
@@ -208,6 +261,57 @@ const AWAITS: &[Row] = &[
     (Comes::Request(8, 1), ("refused", 0)),
     (Comes::Resend, ("ask all", 2)),
 ];
+
+/// An epoch ends after a replacement; node 0 goes on to lead.
+const REPLACES: &[Row] = &[
+    (Comes::Replace(2), ("own", 3)),
+    (Comes::Begin, ("goes on", 0)),
+    (Comes::Request(8, 1), ("kept", 0)),
+    (Comes::PrepareOk(0, 1), ("own", 2)),
+    (Comes::Begin, ("ended", 1)),
+    (Comes::Replace(2), ("known", 1)),
+    (Comes::Request(8, 1), ("own", 3)),
+];
+
+/// Node 0 was replaced by another.
+const STOPS: &[Row] = &[
+    (Comes::Replace(0), ("own", 3)),
+    (Comes::PrepareOk(0, 1), ("own", 2)),
+    (Comes::Begin, ("ended", 1)),
+    (Comes::Request(8, 1), ("refused", 0)),
+    (Comes::Resend, ("replaced", 0)),
+];
+
+/// The node with the token acts once it is told the log that names it: so it tells that log.
+const NAMED: &[Row] = &[
+    (Comes::Request(7, 1), ("refused", 0)),
+    (Comes::TellReplace(0), ("began", 1)),
+    (Comes::Ask(0, 0), ("tell", 0)),
+];
+
+/// It awaits its number where another one is named for.
+const NAMED_FOR_ANOTHER: &[Row] = &[
+    (Comes::TellReplace(2), ("began", 1)),
+    (Comes::Ask(0, 0), ("nothing", 0)),
+    (Comes::Request(8, 1), ("refused", 0)),
+];
+
+/// The token of node 0, what comes to it, and what it does.
+const REPLACEMENTS: &[(u64, &[Row])] = &[
+    (0, REPLACES),
+    (0, STOPS),
+    (TOKEN, NAMED),
+    (TOKEN, NAMED_FOR_ANOTHER),
+];
+
+#[test]
+fn a_replacement_ends_its_epoch_and_names_who_acts(rt: HostRuntime) {
+    let alloc = rt.alloc();
+    for (token, rows) in REPLACEMENTS {
+        let node = first_node(alloc, 0, *token);
+        assert!(rt; first_untrue(alloc, node, *rows) == None, "{token}");
+    }
+}
 
 #[test]
 fn who_leads_goes_over(rt: HostRuntime) {

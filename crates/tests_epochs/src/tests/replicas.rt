@@ -3,7 +3,7 @@
 ghost use Rattle.std.specs.Prelude.{◌≡◌, IfOk, OnOk};
 ghost use Rattle.desk_epoch_replica.specs.Saves.{IsSavedReplica};
 
-use super::epochs::{Comes, event};
+use super::epochs::{Comes, TOKEN, event};
 use desk_epoch_node::EpochEvent;
 use desk_epoch_replica::{EpochAnswer, EpochItem, EpochReplica, ReplicaStep};
 use desk_epoch_stores::{EpochStores, OpenedEpoch};
@@ -131,7 +131,7 @@ fn word(step: &ReplicaStep) -> (&'static str, u64) {
         ReplicaStep::Own { base, .. } => ("own", *base),
         ReplicaStep::Answer(answer) => match answer {
             EpochAnswer::Committed { place, .. } => ("committed", *place),
-            EpochAnswer::Refused { .. } => ("refused", 0),
+            EpochAnswer::Refused { refusal, .. } => ("refused", refusal.number() as u64),
             EpochAnswer::Deferred(_) => ("deferred", 0),
         },
         ReplicaStep::Ask { to, .. } => ("ask", *to as u64),
@@ -242,6 +242,13 @@ fn first_untrue(alloc: Global, faulty: u64, token: u64, rows: &[Row]) -> Option<
 /// No store fails.
 const NONE: u64 = 9;
 
+// The numbers of refusals.
+const STALE: u64 = 31;
+
+const NODE_STOPPED: u64 = 34;
+
+const MEMBER_UNHEARD: u64 = 38;
+
 const GOES_OVER: &[Row] = &[
     (Asked::Meet(Comes::Request(7, 1)), ("own", 0)),
     (Asked::Meet(Comes::Request(7, 2)), ("own", 0)),
@@ -252,7 +259,7 @@ const GOES_OVER: &[Row] = &[
     (Asked::Prepare, ("ready", 0)),
     (Asked::Begin, ("began", 1)),
     (Asked::Meet(Comes::Request(7, 2)), ("committed", 2)),
-    (Asked::Meet(Comes::Request(7, 1)), ("refused", 0)),
+    (Asked::Meet(Comes::Request(7, 1)), ("refused", STALE)),
     (Asked::Meet(Comes::Request(8, 1)), ("own", 2)),
     (Asked::Meet(Comes::PrepareOk(1, 1)), ("own", 2)),
 ];
@@ -302,7 +309,7 @@ const BEGINNING_FAILS: &[Row] = &[
 
 /// No entry names the token of the node.
 const AWAITS: &[Row] = &[
-    (Asked::Meet(Comes::Request(7, 1)), ("refused", 0)),
+    (Asked::Meet(Comes::Request(7, 1)), ("refused", NODE_STOPPED)),
     (Asked::Meet(Comes::Resend), ("ask all", 2)),
     (Asked::Ticks(48), ("ticks", 48)),
     (Asked::Meet(Comes::Resend), ("nothing", 0)),
@@ -311,7 +318,41 @@ const AWAITS: &[Row] = &[
     (Asked::Meet(Comes::Tell(0, 0, 2)), ("began", 1)),
     (Asked::Begin, ("goes on", 1)),
     (Asked::Meet(Comes::Ask(0, 0)), ("nothing", 0)),
-    (Asked::Meet(Comes::Request(7, 3)), ("refused", 0)),
+    (Asked::Meet(Comes::Request(7, 3)), ("refused", NODE_STOPPED)),
+];
+
+/// Node 1 is replaced once the token that is named was heard from it; no retry needs that.
+const HEARS: &[Row] = &[
+    (Asked::Meet(Comes::Replace(1)), ("refused", MEMBER_UNHEARD)),
+    (Asked::Meet(Comes::AskAs(0, TOKEN)), ("nothing", 0)),
+    (Asked::Ticks(99), ("ticks", 99)),
+    // Node 4 is none of three, and node 2 did not ask.
+    (Asked::Meet(Comes::Replace(4)), ("refused", MEMBER_UNHEARD)),
+    (Asked::Meet(Comes::Replace(2)), ("refused", MEMBER_UNHEARD)),
+    (Asked::Meet(Comes::Replace(1)), ("own", 0)),
+    (Asked::Ticks(1), ("ticks", 1)),
+    (Asked::Meet(Comes::Replace(1)), ("deferred", 0)),
+    (Asked::Meet(Comes::PrepareOk(0, 1)), ("own", 0)),
+    (Asked::Prepare, ("ready", 0)),
+    (Asked::Begin, ("began", 1)),
+    (Asked::Meet(Comes::Replace(1)), ("committed", 1)),
+];
+
+/// The token was heard in an ask of another epoch, but too long ago.
+const HEARD_TOO_LONG_AGO: &[Row] = &[
+    (Asked::Meet(Comes::AskAs(1, TOKEN)), ("ask", 1)),
+    (Asked::Ticks(100), ("ticks", 100)),
+    (Asked::Meet(Comes::Replace(1)), ("refused", MEMBER_UNHEARD)),
+    (Asked::Meet(Comes::AskAs(1, TOKEN)), ("ask", 1)),
+    (Asked::Meet(Comes::Replace(1)), ("own", 0)),
+];
+
+/// The node says another token than the one that is named.
+const HEARS_ANOTHER_TOKEN: &[Row] = &[
+    (Asked::Meet(Comes::AskAs(0, TOKEN)), ("nothing", 0)),
+    (Asked::Meet(Comes::AskAs(0, TOKEN + 1)), ("nothing", 0)),
+    (Asked::Meet(Comes::Replace(1)), ("refused", MEMBER_UNHEARD)),
+    (Asked::Meet(Comes::Request(7, 1)), ("own", 0)),
 ];
 
 /// The epoch whose store fails, the node's token, and what is done.
@@ -323,7 +364,10 @@ const RUNS: &[(u64, u64, &[Row])] = &[
     (0, 0, TOLD_SAVE_FAILS),
     (1, 0, TOLD_SAVE_FAILS),
     (1, 0, BEGINNING_FAILS),
-    (NONE, 5, AWAITS),
+    (NONE, TOKEN, AWAITS),
+    (NONE, 0, HEARS),
+    (NONE, 0, HEARD_TOO_LONG_AGO),
+    (NONE, 0, HEARS_ANOTHER_TOKEN),
 ];
 
 /// The first run, counted from 1, that does not come true, with its first row that does not.

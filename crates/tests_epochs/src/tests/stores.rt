@@ -3,7 +3,7 @@
 ghost use Rattle.std.specs.Prelude.{◌≡◌};
 
 use super::epochs::{Comes, entry, event, first_node};
-use desk_epoch_node::EpochNode;
+use desk_epoch_node::{EpochEvent, EpochNode};
 use desk_epoch_stores::{EpochStores, NodeStores, OpenedEpoch, reported_state};
 use desk_log::{Log, MemoryStore, Saved, StateStore};
 use desk_types::{Domain, Owner, Refusal};
@@ -57,9 +57,23 @@ fn log(alloc: Global, last: u64) -> Option<Log> {
     Some(log)
 }
 
+/// The log that replaces a node.
+fn replacing(alloc: Global, node: u8) -> Option<Log> {
+    match event(alloc, Comes::Replace(node))? {
+        EpochEvent::Request(entry) => {
+            let mut log = Log::new(alloc);
+            log.append(entry).ok()?;
+            Some(log)
+        }
+        other => {
+            drop(other);
+            None
+        }
+    }
+}
+
 /// A state with such a log, of which so many entries are committed.
-fn state(alloc: Global, last: u64, commit: u64) -> Option<Saved> {
-    let log = log(alloc, last)?;
+fn state(log: Log, commit: u64) -> Option<Saved> {
     if commit > log.len() {
         return None;
     }
@@ -70,7 +84,7 @@ fn state(alloc: Global, last: u64, commit: u64) -> Option<Saved> {
 pub(super) fn stores(alloc: Global, rows: &[(u64, u64)]) -> Option<GivenStores> {
     let mut states = Vec::new(alloc);
     for row in rows {
-        states.push(state(alloc, row.0, row.1)?).ok()?;
+        states.push(state(log(alloc, row.0)?, row.1)?).ok()?;
     }
     Some(GivenStores {
         alloc,
@@ -78,6 +92,13 @@ pub(super) fn stores(alloc: Global, rows: &[(u64, u64)]) -> Option<GivenStores> 
         missing: None,
         open: 0,
     })
+}
+
+/// Stores of which the first replaces a node.
+pub(super) fn replaced_stores(alloc: Global, node: u8) -> Option<GivenStores> {
+    let mut stores = stores(alloc, &[])?;
+    stores.states.push(state(replacing(alloc, node)?, 1)?).ok()?;
+    Some(stores)
 }
 
 /// Opens epochs as long as one is over.
