@@ -49,12 +49,12 @@ use Rattle.desk_epoch_group.proofs.Standing.{PacketStands, GroupStands, GoesOn, 
 use Rattle.desk_epoch_group.proofs.Standing.{leads_change, stays_packet, becomes}
 
 -- what the node of the epoch does, as a step of the world's node
-record OwnStands (domain : List ℕ) (n i : ℕ) (event : Event) (s : State) (new : NodeValue)
+pub record OwnStands (domain : List ℕ) (n i : ℕ) (event : Event) (s : State) (new : NodeValue)
     (packets : List (ℕ × Message)) : Type 0 where
-  is : IsNode domain n i new (node_step domain i n s event).node
-  packets_are : packets ≡ (node_step domain i n s event).packets
+  pub is : IsNode domain n i new (node_step domain i n s event).node
+  pub packets_are : packets ≡ (node_step domain i n s event).packets
 
-own_stands : (domain : List ℕ) (n i : ℕ) (old : NodeValue) (s : State) (event : Event) (new : NodeValue)
+pub own_stands : (domain : List ℕ) (n i : ℕ) (old : NodeValue) (s : State) (event : Event) (new : NodeValue)
     (packets : List (ℕ × Message)) (answers : List Outcome) → IsNode domain n i old s →
     DoesStep old event new packets answers → IsSameNode old new → OwnStands domain n i event s new packets
 own_stands domain n i old s event new packets answers is does same =
@@ -195,7 +195,7 @@ begins_change domain n most Came i epoch view d log group small at within fresh 
     }
 
 -- a first node in a view stands for one that suspected so often
-next_stands : (domain : List ℕ) (n i view : ℕ) (node : NodeValue) → view ≤ LAST_VIEW →
+pub next_stands : (domain : List ℕ) (n i view : ℕ) (node : NodeValue) → view ≤ LAST_VIEW →
     node ≡ record { domain = domain; id = i; n = n; saved = in_view view initial_saved; heard = silence n } →
     IsNode domain n i node (suspected domain i n view)
 next_stands domain n i view node h is =
@@ -238,7 +238,7 @@ first_goes_on domain n most Came i view old new d log value packets group within
     (λ to p x. in_epoch_stands domain n c.later (epoch + 1) packets (λ y z. c.sent y (inr (sent y z))) to p x)
 
 -- what a first node is, of a node that is node i of n
-first_node_is : (domain : List ℕ) (n i view : ℕ) (node : NodeValue) → node.domain ≡ domain → node.id ≡ i →
+pub first_node_is : (domain : List ℕ) (n i view : ℕ) (node : NodeValue) → node.domain ≡ domain → node.id ≡ i →
     node.n ≡ n → node_in_view node.domain node.id node.n view
     ≡ record { domain = domain; id = i; n = n; saved = in_view view initial_saved; heard = silence n }
 first_node_is domain n i view node p q r =
@@ -246,7 +246,7 @@ first_node_is domain n i view node p q r =
     ∙ (ap (λ (x : ℕ). node_in_view domain x node.n view) q
     ∙ ap (λ (x : ℕ). node_in_view domain i x view) r)
 
-view_below : (acting : Bool) (node : NodeValue) → 0 < node.n → next_view acting node < node.n
+pub view_below : (acting : Bool) (node : NodeValue) → 0 < node.n → next_view acting node < node.n
 view_below true node some = mod-lt node.saved.view some
 view_below false node some = some
 

@@ -12,7 +12,7 @@ use Rattle.desk_world.specs.Group.{IsNode}
 use Rattle.desk_world.specs.World.{first_state, first_world, node_of_world}
 use Rattle.desk_world.specs.declared.world_event.WorldEvent.TheVariants.{Request}
 use Rattle.desk_world.proofs.Packets.{Contains-here, Contains-there, Contains-none}
-use Rattle.desk_epochs.specs.Epochs.{Epochs, first_epochs}
+use Rattle.desk_epochs.specs.Epochs.{Epochs, first_epochs, joined_logs}
 use Rattle.desk_epochs.proofs.Epochs.{leads_on}
 use Rattle.desk_epoch_node.specs.declared.event.EpochEvent.TheVariants as comes
 use Rattle.desk_epoch_node.specs.EpochValue.{committed_cut, standing_of}
@@ -27,14 +27,16 @@ use Rattle.desk_epoch_group.proofs.Standing.{GroupStands, GoesOn}
 use Rattle.desk_epoch_group.proofs.Begun.{begun_goes_on, again_goes_on, due_next}
 use Rattle.desk_epoch_group.proofs.Meeting.{meets_goes_on}
 use Rattle.desk_epoch_group.proofs.StartedAgain.{meets_again, starts_goes_on}
+use Rattle.desk_epoch_group.proofs.StepCases.{begins_reported, step_case}
 
 act_goes_on : (domain : List ℕ) (n most : ℕ) (Came : Entry → Type 0) (old new : EpochNodes) (d : Epochs)
     (act : EpochAct) → IsGroupSize n → ((i : ℕ) (e : Entry) → act ≡ Meets i (comes.Request e) → Came e) →
     GroupStands domain n most Came old d → ActLeads n old act new → GoesOn domain n most Came d new
 act_goes_on domain n most Came old new d (Meets i event) size may g (value, step, sent, does, b) =
-    meets_goes_on domain n most Came i old new d (standing_of (old.values i)) event value step size
-    (λ e same. may i e (ap (λ x. Meets i x) same)) g sent
-    does b
+    meets_goes_on domain n most Came i old new d event value step size (λ e same. may i e (ap (λ x. Meets i x) same))
+    g sent
+    (step_case (joined_logs (old.logs i)) (old.logs i) (old.values i) value event step (standing_of (old.values i)) refl
+    does) b
 act_goes_on domain n most Came old new d (Begins i) size may g (value, packets, due, b) =
     begun_goes_on domain n most Came i old new d (committed_cut (old.values i)) value packets size g
     due.begins (due_next domain n most Came i old d g due.due) b
@@ -42,8 +44,10 @@ act_goes_on domain n most Came old new d (BeginsAndEnds i) size may g (value, pa
     again_goes_on domain n most Came i old new d (committed_cut (old.values i)) value packets size g
     due.begins (due_next domain n most Came i old d g due.due) b
 act_goes_on domain n most Came old new d (MeetsAndEnds i event) size may g (value, step, sent, does, begun, b) =
-    meets_again domain n most Came i old new d (standing_of (old.values i)) event value step size g sent
-    does begun b
+    meets_again domain n most Came i old new d event value step size g sent
+    (begins_reported (joined_logs (old.logs i)) (old.logs i) (old.values i) value event step
+    (step_case (joined_logs (old.logs i)) (old.logs i) (old.values i) value event step (standing_of (old.values i)) refl
+    does) begun) b
 act_goes_on domain n most Came old new d (StartsAgain i) size may g (value, starts, b) =
     starts_goes_on domain n most Came i old new d value size g starts b
 
@@ -76,12 +80,12 @@ first_state_at zero i = refl
 first_state_at (suc n) zero = refl
 first_state_at (suc n) (suc i) = first_state_at n i
 
-fresh_node : (domain : List ℕ) (n i epoch : ℕ) →
+pub fresh_node : (domain : List ℕ) (n i epoch : ℕ) →
     node_of_world (epoch_world domain n first_epochs epoch) i ≡ first_state
 unfolding first_world
 fresh_node domain n i epoch = first_state_at n i
 
-first_stand : StandFor [] (record { rows = []; length = 0; replacements = [] })
+pub first_stand : StandFor [] (record { rows = []; length = 0; replacements = [] })
 first_stand = record { length_is = refl; rows_are = λ client. refl; replacements_are = refl }
 
 pub first_stands : (domain : List ℕ) (n most : ℕ) (Came : Entry → Type 0) →

@@ -4,7 +4,8 @@ use Rattle.std.proofs.Common.{length, Some, refl, sym, ap, ◌∙◌, inl, inr, 
 use Rattle.std.proofs.Common.{get_or}
 use Rattle.std.specs.List.{slice_get, Contains}
 use Rattle.std.proofs.lemmas.Bool.{cases_eq, eq-eqb, ne_eqb}
-use Rattle.std.proofs.lemmas.List.{append-nil, get_or-set_same, get_or-set_other}
+use Rattle.std.proofs.lemmas.List.{append-nil, append_assoc, get_or-set_same, get_or-set_other}
+use Rattle.std.proofs.lemmas.Option.{same_Some}
 use Rattle.std.proofs.lemmas.List.Elements.{Contains-append_left, Contains-append_right, Contains-append_cases}
 use Rattle.desk_types.specs.Group.{IsGroup}
 use Rattle.desk_types.specs.declared.command.Entry.{Entry}
@@ -31,6 +32,7 @@ use Rattle.desk_epochs.proofs.Epochs.{leads_on}
 use Rattle.desk_epoch_node.specs.Laws.{suspected}
 use Rattle.desk_epoch_node.proofs.EpochEnds.{suspicions_lead}
 use Rattle.desk_epoch_group.specs.Agreement.{Lead, ending_after}
+use Rattle.desk_epoch_group.specs.Group.{IsAt}
 
 -- the world of an epoch
 abbrev pub epoch_world : List ℕ → ℕ → Epochs → ℕ → World
@@ -40,14 +42,34 @@ epoch_world domain n d epoch = world domain n (d.runs epoch)
 abbrev pub OnlyCame : (Entry → Type 0) → Epochs → Type 0
 OnlyCame Came d = (epoch : ℕ) (e : Entry) → IsRequested (d.runs epoch) e → Came e
 
+-- After the events of a world each of these is one at node i, and a request among them is new beside a log.
+abbrev pub AreAt : List ℕ → ℕ → ℕ → List Entry → List WorldEvent → List WorldEvent → Type 0
+AreAt domain n i past run [] = Unit {0}
+AreAt domain n i past run (event ∷ more) =
+    IsAt i (world domain n run) event × IsNewFor past event × AreAt domain n i past (run ++ event ∷ []) more
+
+at_append : (domain : List ℕ) (n i : ℕ) (past : List Entry) (run xs ys : List WorldEvent) →
+    AreAt domain n i past run xs → AreAt domain n i past (run ++ xs) ys → AreAt domain n i past run (xs ++ ys)
+at_append domain n i past run [] ys a b =
+    subst (λ (es : List WorldEvent). AreAt domain n i past es ys) (append-nil run) b
+at_append domain n i past run (x ∷ xs) ys (at, new, rest) b = (
+  at,
+  new,
+  at_append domain n i past (run ++ x ∷ []) xs ys rest
+      (subst (λ (es : List WorldEvent). AreAt domain n i past es ys) (sym (append_assoc run (x ∷ []) xs)) b),
+)
+
 -- Steps lead from a desk to one in which node i of an epoch is in this state, and these packets were sent in the epoch.
--- No other node has changed, no other epoch, and nothing that nodes have behind them. Where only requests that came
--- were made before, so it is there.
+-- No other node has changed, no other epoch, and nothing that nodes have behind them. What happened are events at node
+-- i. Where only requests that came were made before, so it is there.
 pub record Leads (domain : List ℕ) (n most : ℕ) (Came : Entry → Type 0) (i epoch : ℕ) (d : Epochs) (s : State)
     (packets : List (ℕ × Message)) : Type 0 where
   pub count : ℕ
   pub later : Epochs
   pub lead : Lead domain n most count d later
+  pub more : List WorldEvent
+  pub run_is : later.runs epoch ≡ d.runs epoch ++ more
+  pub at : AreAt domain n i (joined_logs (d.pasts i)) (d.runs epoch) more
   pub pasts_are : (j : ℕ) → later.pasts j ≡ d.pasts j
   pub elsewhere : (k : ℕ) → k ≢ epoch → later.runs k ≡ d.runs k
   pub here : node_of_world (epoch_world domain n later epoch) i ≡ s
@@ -63,6 +85,9 @@ leads_none domain n most Came i epoch d = record {
   count = 0;
   later = d;
   lead = refl;
+  more = [];
+  run_is = sym (append-nil (d.runs epoch));
+  at = tt;
   pasts_are = λ j. refl;
   elsewhere = λ k ne. refl;
   here = refl;
@@ -78,6 +103,13 @@ leads_then domain n most Came i epoch d s t ps qs m k = record {
   count = m.count + k.count;
   later = k.later;
   lead = leads_on domain (ending_after most) (λ e. n) m.count k.count d m.later k.later m.lead k.lead;
+  more = m.more ++ k.more;
+  run_is = k.run_is ∙ (ap (λ (es : List WorldEvent). es ++ k.more) m.run_is
+      ∙ append_assoc (d.runs epoch) m.more k.more);
+  at = at_append domain n i (joined_logs (d.pasts i)) (d.runs epoch) m.more k.more m.at
+      (subst (λ (es : List WorldEvent). AreAt domain n i (joined_logs (d.pasts i)) es k.more) m.run_is
+      (subst (λ (ls : List (List Entry)). AreAt domain n i (joined_logs ls) (m.later.runs epoch) k.more)
+      (m.pasts_are i) k.at));
   pasts_are = λ j. k.pasts_are j ∙ m.pasts_are j;
   elsewhere = λ e ne. k.elsewhere e ne ∙ m.elsewhere e ne;
   here = k.here;
@@ -100,6 +132,9 @@ leads_as domain n most Came i epoch d s t ps qs same some m = record {
   count = m.count;
   later = m.later;
   lead = m.lead;
+  more = m.more;
+  run_is = m.run_is;
+  at = m.at;
   pasts_are = m.pasts_are;
   elsewhere = m.elsewhere;
   here = m.here ∙ same;
@@ -164,11 +199,12 @@ event_came Came d epoch event new before k e asked = by_epoch (cases_eq k epoch)
 -- An event that comes to node i, which is in the epoch.
 pub leads_event : (domain : List ℕ) (n most : ℕ) (Came : Entry → Type 0) (i epoch : ℕ) (d : Epochs) (e : WorldEvent)
     (event : Event) → IsGroup n → i < n → epoch ≡ epoch_of d i → IsNewFor (joined_logs (d.pasts i)) e →
-    ((j : ℕ) (x : Entry) → e ≡ Request j x → Came x) → world_after domain n (epoch_world domain n d epoch) e ≡
+    ((j : ℕ) (x : Entry) → e ≡ Request j x → Came x) → IsAt i (epoch_world domain n d epoch) e →
+    world_after domain n (epoch_world domain n d epoch) e ≡
     world_after_event domain n (epoch_world domain n d epoch) i event →
     Leads domain n most Came i epoch d (step_in domain n i epoch d event).node (step_in domain n i epoch d
     event).packets
-leads_event domain n most Came i epoch d e event group small at new may comes =
+leads_event domain n most Came i epoch d e event group small at new may is_at comes =
     let w : World = epoch_world domain n d epoch in
     let later : Epochs = with_event d epoch e in
     let step : NodeStep = node_step domain i n (node_of_world w i) event in
@@ -194,6 +230,9 @@ leads_event domain n most Came i epoch d e event group small at new may comes =
         }),
         refl,
       );
+      more = e ∷ [];
+      run_is = run;
+      at = (is_at, new, tt);
       pasts_are = λ j. same_pasts d epoch e j;
       elsewhere = λ k ne. other_run d epoch e k ne;
       here = ap (λ (x : World). node_of_world x i) is_world ∙ get_or-set_same w.nodes i step.node first_state within;
@@ -240,7 +279,7 @@ pub leads_request : (domain : List ℕ) (n most : ℕ) (Came : Entry → Type 0)
 unfolding world_after
 leads_request domain n most Came i epoch d entry group small at new came =
     leads_event domain n most Came i epoch d (Request i entry) (events.Request entry) group small at new
-    (λ j x same. subst Came (same_entry i j entry x same) came) refl
+    (λ j x same. subst Came (same_entry i j entry x same) came) refl refl
 
 pub leads_packet : (domain : List ℕ) (n most : ℕ) (Came : Entry → Type 0) (i epoch : ℕ) (d : Epochs) (p : Message) →
     IsGroup n → i < n → epoch ≡ epoch_of d i → Contains (epoch_world domain n d epoch).packets (i, p) →
@@ -251,7 +290,8 @@ leads_packet domain n most Came i epoch d p group small at c =
     let w : World = epoch_world domain n d epoch in
     let there : packet_at w.packets (suc c.0) ≡ Some (i, p) = get_some w.packets c.0 (i, p) c.1 ∙ ap Some c.2 in
     leads_event domain n most Came i epoch d (Deliver (suc c.0)) (events.Packet p) group small at tt
-    (λ j x same. absurd (not_request (Deliver (suc c.0)) j x tt same)) (rw there refl)
+    (λ j x same. absurd (not_request (Deliver (suc c.0)) j x tt same))
+    (λ sent h. ap (λ (x : ℕ × Message). x.0) (sym (same_Some (i, p) sent (sym there ∙ h)))) (rw there refl)
 
 pub leads_resend : (domain : List ℕ) (n most : ℕ) (Came : Entry → Type 0) (i epoch : ℕ) (d : Epochs) → IsGroup n →
     i < n → epoch ≡ epoch_of d i → Leads domain n most Came i epoch d (step_in domain n i epoch d events.Resend).node
@@ -259,7 +299,7 @@ pub leads_resend : (domain : List ℕ) (n most : ℕ) (Came : Entry → Type 0) 
 unfolding world_after IsNoRequest
 leads_resend domain n most Came i epoch d group small at =
     leads_event domain n most Came i epoch d (Resend i) events.Resend group small at tt
-    (λ j x same. absurd (not_request (Resend i) j x tt same)) refl
+    (λ j x same. absurd (not_request (Resend i) j x tt same)) refl refl
 
 pub leads_suspect : (domain : List ℕ) (n most : ℕ) (Came : Entry → Type 0) (i epoch : ℕ) (d : Epochs) → IsGroup n →
     i < n → epoch ≡ epoch_of d i → Leads domain n most Came i epoch d (step_in domain n i epoch d events.Suspect).node
@@ -267,7 +307,7 @@ pub leads_suspect : (domain : List ℕ) (n most : ℕ) (Came : Entry → Type 0)
 unfolding world_after IsNoRequest
 leads_suspect domain n most Came i epoch d group small at =
     leads_event domain n most Came i epoch d (Suspect i) events.Suspect group small at tt
-    (λ j x same. absurd (not_request (Suspect i) j x tt same)) refl
+    (λ j x same. absurd (not_request (Suspect i) j x tt same)) refl refl
 
 pub leads_restart : (domain : List ℕ) (n most : ℕ) (Came : Entry → Type 0) (i epoch : ℕ) (d : Epochs) → IsGroup n →
     i < n → epoch ≡ epoch_of d i → Leads domain n most Came i epoch d (step_in domain n i epoch d events.Restart).node
@@ -275,7 +315,7 @@ pub leads_restart : (domain : List ℕ) (n most : ℕ) (Came : Entry → Type 0)
 unfolding world_after IsNoRequest
 leads_restart domain n most Came i epoch d group small at =
     leads_event domain n most Came i epoch d (Restart i) events.Restart group small at tt
-    (λ j x same. absurd (not_request (Restart i) j x tt same)) refl
+    (λ j x same. absurd (not_request (Restart i) j x tt same)) refl refl
 
 -- what a first node sends that suspects once more
 suspect_sends : (domain : List ℕ) (i n k : ℕ) → suc k ≤ LAST_VIEW →

@@ -3,6 +3,7 @@ pub mod Leads
 pub mod Requests
 pub mod Standing
 pub mod Begun
+pub mod StepCases
 pub mod Meeting
 pub mod StartedAgain
 pub mod GroupEpochs

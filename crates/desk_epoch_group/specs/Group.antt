@@ -7,6 +7,9 @@ use Rattle.desk_types.specs.EpochPackets.{packet_under}
 use Rattle.desk_log.specs.SavedValue.{initial_saved}
 use Rattle.desk_node.specs.Heard.{silence}
 use Rattle.desk_node.specs.NodeValue.{node_from}
+use Rattle.desk_world.specs.declared.world_event.WorldEvent.{WorldEvent}
+use Rattle.desk_world.specs.declared.world_event.WorldEvent.TheVariants as happens
+use Rattle.desk_world.specs.World.{World, packet_at}
 use Rattle.desk_epochs.specs.Epochs.{joined_logs}
 use Rattle.desk_epoch_node.specs.declared.event.EpochEvent.{EpochEvent}
 use Rattle.desk_epoch_node.specs.declared.event.EpochEvent.TheVariants as comes
@@ -173,6 +176,14 @@ ActLeads n old (MeetsAndEnds i event) new =
 ActLeads n old (StartsAgain i) new =
     (value : EpochValue) × StartsInEpoch (joined_logs (old.logs i)) (old.values i) value
     × NodeBecomes n i old value (old.logs i) [] new
+
+-- An event of an epoch's world is one at the node of a number. (A packet's delivery is at its receiver.)
+abbrev pub IsAt : ℕ → World → WorldEvent → Type 0
+IsAt number w (happens.Request i entry) = i ≡ number
+IsAt number w (happens.Deliver k) = (sent : ℕ × Message) → packet_at w.packets k ≡ Some sent → sent.0 ≡ number
+IsAt number w (happens.Resend i) = i ≡ number
+IsAt number w (happens.Suspect i) = i ≡ number
+IsAt number w (happens.Restart i) = i ≡ number
 
 -- So do acts, one after the other.
 abbrev pub ActsLead : ℕ → EpochNodes → List EpochAct → EpochNodes → Type 0

@@ -1,2 +1,12 @@
 pub mod WholePasts
 pub mod Laws
+pub mod StepsAtUp
+pub mod NeverStuck
+pub mod Sample
+pub mod NamedTokens
+pub mod DeskChanges
+pub mod TokenStanding
+pub mod TokenSteps
+pub mod TokenBeginnings
+pub mod TokenHistories
+pub mod TokenActs

@@ -3,12 +3,13 @@ use Rattle.std.specs.Prelude.{◌≡◌, ◌≢◌, ◌⊎◌, ◌==◌, ℕ, ze
 use Rattle.std.specs.Prelude.{length, Option, Some, None}
 use Rattle.std.specs.Option.{is_some}
 use Rattle.desk_types.specs.declared.command.Entry.{Entry}
-use Rattle.desk_types.specs.declared.packet.Message.{Message}
 use Rattle.desk_world.specs.declared.world_event.WorldEvent.{WorldEvent}
-use Rattle.desk_world.specs.declared.world_event.WorldEvent.TheVariants.{Request, Deliver, Resend, Suspect, Restart}
-use Rattle.desk_world.specs.World.{World, world, packet_at}
+use Rattle.desk_world.specs.World.{world}
 use Rattle.desk_epochs.specs.Epochs.{joined_logs, IsNewFor}
 use Rattle.desk_epochs.specs.Histories.{Ending, committed_in, epoch_log, has_ended}
+use Rattle.desk_epoch_node.specs.declared.replacement.Replacement.{Replacement}
+use Rattle.desk_epoch_node.specs.Replacements.{token_with}
+use Rattle.desk_epoch_group.specs.Group.{IsAt}
 
 -- the events of each epoch, and of each node, which is a number with a token, the logs of the epochs behind it
 pub record Desk : Type 0 where
@@ -23,15 +24,15 @@ first_desk = record { runs = λ epoch. []; pasts = λ number token. [] }
 -- of the node that acts under it.
 pub record Rules : Type 0 where
   pub most : ℕ
-  pub named : Entry → Option (ℕ × ℕ)
+  pub named : Entry → Option Replacement
 
 abbrev pub ending_of : Rules → Ending
 ending_of rules = record { ends = λ e. is_some (rules.named e); most = rules.most }
 
 -- the token of a number after what an entry names
-abbrev pub with_named : ℕ → ℕ → Option (ℕ × ℕ) → ℕ
+abbrev pub with_named : ℕ → ℕ → Option Replacement → ℕ
 with_named number token None = token
-with_named number token (Some named) = if named.0 == number then named.1 else token
+with_named number token (Some named) = token_with number token named
 
 -- the token of a number after entries, from the one that it had before them
 abbrev pub named_token : Rules → ℕ → ℕ → List Entry → ℕ
@@ -50,14 +51,6 @@ acts_in rules d number token = named_token rules number 0 (joined_logs (d.pasts 
 abbrev pub committed_here : List ℕ → (ℕ → ℕ) → Desk → ℕ → ℕ → List Entry
 committed_here domain sizes d number token =
     committed_in domain (sizes (epoch_in d number token)) (d.runs (epoch_in d number token)) number
-
--- The event is one at the number. (A packet's delivery is at its receiver.)
-abbrev pub IsAt : ℕ → World → WorldEvent → Type 0
-IsAt number w (Request i entry) = i ≡ number
-IsAt number w (Deliver k) = (sent : ℕ × Message) → packet_at w.packets k ≡ Some sent → sent.0 ≡ number
-IsAt number w (Resend i) = i ≡ number
-IsAt number w (Suspect i) = i ≡ number
-IsAt number w (Restart i) = i ≡ number
 
 -- A node that acts in its epoch deals with an event there. A request is new beside what the node has behind it.
 pub record Deals (domain : List ℕ) (rules : Rules) (sizes : ℕ → ℕ) (old new : Desk) : Type 0 where
