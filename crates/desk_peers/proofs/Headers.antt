@@ -1,12 +1,12 @@
 -- Headers, and the frames after them.
-use Rattle.std.proofs.Common.{◌≡◌, ◌==◌, ◌&&◌, ◌≤◌, ℕ, Bool, true, false, List, [], ◌∷◌, ◌++◌}
+use Rattle.std.proofs.Common.{◌≡◌, ◌==◌, ◌&&◌, ◌≤◌, ◌<◌, ◌+◌, ◌^◌, ℕ, Bool, true, false, List, [], ◌∷◌, ◌++◌}
 use Rattle.std.proofs.Common.{length, take, drop, refl, sym, ap, subst, ◌∙◌, append_assoc, MatchBool, arith}
 use Rattle.std.proofs.Common.{Some, if◌then◌else◌, eqb-true}
 use Rattle.std.proofs.lemmas.List.{append_cancel_left, take_at, drop_at, take-append-le, length-append}
 use Rattle.std.proofs.lemmas.List.Concat.{flat_map-cons}
 use Rattle.std.proofs.lemmas.Nat.{from_be_bytes-to_be_bytes_4, from_be_bytes-to_be_bytes_8}
 use Rattle.std.specs.Int.{w32, w64, to_be_bytes, from_be_bytes}
-use Rattle.desk_types.specs.declared.limits.TheConstants.{FRAME_BYTES}
+use Rattle.desk_types.specs.declared.limits.TheConstants.{FRAME_BYTES, LOG_ENTRIES}
 use Rattle.desk_types.specs.declared.packet.Message.{Message}
 use Rattle.desk_codec.specs.Ranges.{FitsMessage}
 use Rattle.desk_codec.specs.Spelling.{long, packet_spelling, frame_spelling, FramesBeginNone, PacketsFit}
@@ -15,51 +15,71 @@ use Rattle.desk_frames.proofs.FirstFrames.{announced_is, frame_length}
 use Rattle.desk_types.specs.declared.epoch_packet.Purpose.{Purpose}
 use Rattle.desk_types.specs.declared.epoch_packet.Purpose.TheVariants.{Step, Ask, Tell}
 use Rattle.desk_peers.specs.declared.header.EpochHeader.{EpochHeader}
-use Rattle.desk_peers.specs.declared.header.TheConstants.{HEADER_MARK, STEP}
-use Rattle.desk_peers.specs.Headers.{purpose_number, purpose_of, is_first, header_bytes}
-use Rattle.desk_peers.specs.Headers.{header_spelling, FitsHeader, HasHeader, HasNoHeader, FramesBeginNoHeader}
-use Rattle.desk_peers.specs.Headers.{HeadersAreOne, HeadersAreWritten, StreamsAreOne}
+use Rattle.desk_peers.specs.declared.header.TheConstants.{HEADER_MARK, PLACES_MARK, STEP}
+use Rattle.desk_peers.specs.Headers.{purpose_number, purpose_of, is_first, is_untold, header_bytes, header_mark}
+use Rattle.desk_peers.specs.Headers.{header_spelling, FitsHeader, FitsPlaces, HasHeader, HasNoHeader}
+use Rattle.desk_peers.specs.Headers.{FramesBeginNoHeader, HeadersAreOne, HeadersAreWritten, StreamsAreOne}
 
--- the mark of a header
-abbrev pub mark : List ℕ
-mark = to_be_bytes w32 HEADER_MARK
+-- the mark of a header, in bytes
+abbrev pub mark : ℕ → List ℕ
+mark places = to_be_bytes w32 (header_mark places)
 
 -- what stands after it
 abbrev pub after_mark : EpochHeader → List ℕ
 after_mark h = purpose_number h.purpose ∷ long h.epoch
 
-pub mark_number : from_be_bytes w32 mark ≡ HEADER_MARK
-mark_number = from_be_bytes-to_be_bytes_4 HEADER_MARK (omega arith)
+-- The mark is a number of four bytes, and no frame is as long.
+high_as : (places : ℕ) (b : Bool) → FitsPlaces places →
+    (FRAME_BYTES < (if b then HEADER_MARK else PLACES_MARK + places))
+    × ((if b then HEADER_MARK else PLACES_MARK + places) < 2 ^ 32)
+high_as places true fits = (omega arith, omega arith)
+high_as places false fits = (omega (arith, fits), omega (arith, fits))
+
+pub mark_high : (places : ℕ) → FitsPlaces places →
+    (FRAME_BYTES < header_mark places) × (header_mark places < 2 ^ 32)
+unfolding header_mark
+mark_high places fits = high_as places (places == LOG_ENTRIES) fits
+
+pub mark_number : (places : ℕ) → FitsPlaces places → from_be_bytes w32 (mark places) ≡ header_mark places
+mark_number places fits = from_be_bytes-to_be_bytes_4 (header_mark places) (mark_high places fits).1
+
+-- what begins with the mark's bytes
+pub mark_front : (places : ℕ) (bytes more others : List ℕ) → FitsPlaces places → 4 ≤ length bytes →
+    bytes ++ more ≡ mark places ++ others → announced_length bytes ≡ header_mark places
+mark_front places bytes more others fits le e =
+    let front : take 4 bytes ≡ mark places = sym (take-append-le 4 bytes more le) ∙ ap (take 4) e
+    ∙ take_at (mark places) others 4 refl in
+    ap (from_be_bytes w32) front ∙ mark_number places fits
 
 -- what begins as a header has its mark
-pub mark_first : (bytes more others : List ℕ) (h : EpochHeader) → 4 ≤ length bytes →
-    bytes ++ more ≡ header_bytes h ++ others → announced_length bytes ≡ HEADER_MARK
-mark_first bytes more others h le e =
-    let front : take 4 bytes ≡ mark = sym (take-append-le 4 bytes more le)
-    ∙ ap (take 4) (e ∙ append_assoc mark (after_mark h) others) ∙ take_at mark (after_mark h ++ others) 4 refl in
-    ap (from_be_bytes w32) front ∙ mark_number
+pub mark_first : (places : ℕ) (bytes more others : List ℕ) (h : EpochHeader) → FitsPlaces places → 4 ≤ length bytes →
+    bytes ++ more ≡ header_bytes places h ++ others → announced_length bytes ≡ header_mark places
+mark_first places bytes more others h fits le e =
+    mark_front places bytes more (after_mark h ++ others) fits le
+    (e ∙ append_assoc (mark places) (after_mark h) others)
 
 -- a header that is told
-pub header_written : (h : EpochHeader) → is_first h ≡ false → header_spelling h ≡ header_bytes h
-header_written h e = ap (λ b. if b then [] else header_bytes h) e
+pub header_written : (places : ℕ) (h : EpochHeader) → is_untold places h ≡ false →
+    header_spelling places h ≡ header_bytes places h
+header_written places h e = ap (λ b. if b then [] else header_bytes places h) e
 
--- that of the first epoch's steps
-pub header_unwritten : (h : EpochHeader) → is_first h ≡ true → header_spelling h ≡ []
-header_unwritten h e = ap (λ b. if b then [] else header_bytes h) e
+-- one that is untold
+pub header_unwritten : (places : ℕ) (h : EpochHeader) → is_untold places h ≡ true → header_spelling places h ≡ []
+header_unwritten places h e = ap (λ b. if b then [] else header_bytes places h) e
 
-pub frame_no_header : PacketsFit → (m : Message) (h : EpochHeader) (more others : List ℕ) → FitsMessage m →
-    frame_spelling m ++ more ≡ header_bytes h ++ others → ⊥
-frame_no_header fit m h more others f e =
+pub frame_no_header : PacketsFit → (places : ℕ) (m : Message) (h : EpochHeader) (more others : List ℕ) →
+    FitsPlaces places → FitsMessage m → frame_spelling m ++ more ≡ header_bytes places h ++ others → ⊥
+frame_no_header fit places m h more others fits f e =
     let bytes = frame_spelling m in
     let least : 4 ≤ length bytes = omega (arith, frame_length m) in
     let said = announced_is fit bytes more more m least f refl in
     let most : length (packet_spelling m) ≤ FRAME_BYTES = (fit m f).1 in
-    let is_mark = mark_first bytes more others h least e in
-    omega (arith, said.0, most, is_mark)
+    let is_mark = mark_first places bytes more others h fits least e in
+    omega (arith, said.0, most, is_mark, (mark_high places fits).0)
 
 pub frames_begin_no_header : PacketsFit → FramesBeginNoHeader
-frames_begin_no_header fit m h more others f is e =
-    frame_no_header fit m h more others f (e ∙ ap (λ t. t ++ others) (header_written h is))
+frames_begin_no_header fit places m h more others fits f is e =
+    frame_no_header fit places m h more others fits f (e ∙ ap (λ t. t ++ others) (header_written places h is))
 
 -- a purpose has one number
 
@@ -88,14 +108,21 @@ first_is h e =
     ap (λ n. record { epoch = n; purpose = h.purpose }) epoch
     ∙ ap (λ p. record { epoch = 0; purpose = p }) purpose
 
+pub untold_is_first : (places : ℕ) (h : EpochHeader) → is_untold places h ≡ true → is_first h ≡ true
+untold_is_first places h e = and_right (places == LOG_ENTRIES) (is_first h) e
+
+pub untold_places : (places : ℕ) (h : EpochHeader) → is_untold places h ≡ true → places ≡ LOG_ENTRIES
+untold_places places h e = eqb-true places LOG_ENTRIES (and_left (places == LOG_ENTRIES) (is_first h) e)
+
 -- bytes begin with one header that is told
 
-pub written_one : (g h : EpochHeader) (r s : List ℕ) → FitsHeader g → FitsHeader h →
-    header_bytes g ++ r ≡ header_bytes h ++ s → (g ≡ h) × (r ≡ s)
-written_one g h r s f k e =
-    let cut : after_mark g ++ r ≡ after_mark h ++ s = sym (drop_at mark (after_mark g ++ r) 4 refl)
-    ∙ ap (drop 4) (sym (append_assoc mark (after_mark g) r) ∙ e ∙ append_assoc mark (after_mark h) s)
-    ∙ drop_at mark (after_mark h ++ s) 4 refl in
+pub written_one : (places : ℕ) (g h : EpochHeader) (r s : List ℕ) → FitsHeader g → FitsHeader h →
+    header_bytes places g ++ r ≡ header_bytes places h ++ s → (g ≡ h) × (r ≡ s)
+written_one places g h r s f k e =
+    let whole : mark places ++ (after_mark g ++ r) ≡ mark places ++ (after_mark h ++ s) =
+    sym (append_assoc (mark places) (after_mark g) r) ∙ e ∙ append_assoc (mark places) (after_mark h) s in
+    let cut : after_mark g ++ r ≡ after_mark h ++ s =
+    append_cancel_left (mark places) (after_mark g ++ r) (after_mark h ++ s) whole in
     let number : purpose_number g.purpose ≡ purpose_number h.purpose = cc in
     let epochs : long g.epoch ++ r ≡ long h.epoch ++ s = cc in
     let longs : long g.epoch ≡ long h.epoch = sym (take_at (long g.epoch) r 8 refl) ∙ ap (take 8) epochs
@@ -109,35 +136,41 @@ written_one g h r s f k e =
       sym (drop_at (long g.epoch) r 8 refl) ∙ ap (drop 8) epochs ∙ drop_at (long h.epoch) s 8 refl,
     )
 
--- what it is for bytes to have a header, where it is known whether that is told
-abbrev Has : Bool → EpochHeader → List ℕ → Type 0
-Has first h bytes = MatchBool first (HasNoHeader bytes) ((rest : List ℕ) × (bytes ≡ header_bytes h ++ rest))
+-- what it is for bytes to have a header, where it is known whether that is untold
+abbrev Has : ℕ → Bool → EpochHeader → List ℕ → Type 0
+Has places untold h bytes = MatchBool untold (HasNoHeader places bytes)
+    ((rest : List ℕ) × (bytes ≡ header_bytes places h ++ rest))
 
-one_as : (g h : EpochHeader) (bytes : List ℕ) (b c : Bool) → is_first g ≡ b → is_first h ≡ c → FitsHeader g →
-    FitsHeader h → Has b g bytes → Has c h bytes → g ≡ h
-one_as g h bytes true true e d f k p q = first_is g e ∙ sym (first_is h d)
-one_as g h bytes true false e d f k p q = absurd (p h q.0 d k q.1)
-one_as g h bytes false true e d f k p q = absurd (q g p.0 e f p.1)
-one_as g h bytes false false e d f k p q = (written_one g h p.0 q.0 f k (sym p.1 ∙ q.1)).0
+one_as : (places : ℕ) (g h : EpochHeader) (bytes : List ℕ) (b c : Bool) → is_untold places g ≡ b →
+    is_untold places h ≡ c → FitsHeader g → FitsHeader h → Has places b g bytes → Has places c h bytes → g ≡ h
+one_as places g h bytes true true e d f k p q =
+    first_is g (untold_is_first places g e) ∙ sym (first_is h (untold_is_first places h d))
+one_as places g h bytes true false e d f k p q = absurd (p h q.0 d k q.1)
+one_as places g h bytes false true e d f k p q = absurd (q g p.0 e f p.1)
+one_as places g h bytes false false e d f k p q = (written_one places g h p.0 q.0 f k (sym p.1 ∙ q.1)).0
 
 pub headers_are_one : HeadersAreOne
-headers_are_one g h bytes f k p q = one_as g h bytes (is_first g) (is_first h) refl refl f k p q
+headers_are_one places g h bytes f k p q =
+    one_as places g h bytes (is_untold places g) (is_untold places h) refl refl f k p q
 
 -- the frames of packets begin as no header does
-pub frames_no_header : PacketsFit → (ms : List Message) (h : EpochHeader) (others : List ℕ) → AreFit ms →
-    frames_spelling ms ≡ header_bytes h ++ others → ⊥
-frames_no_header fit [] h others f e = let stuck : ⊥ = cc in stuck
-frames_no_header fit (m ∷ ms) h others f e =
-    frame_no_header fit m h (frames_spelling ms) others f.0 (sym (flat_map-cons frame_spelling m ms) ∙ e)
+pub frames_no_header : PacketsFit → (places : ℕ) (ms : List Message) (h : EpochHeader) (others : List ℕ) →
+    FitsPlaces places → AreFit ms → frames_spelling ms ≡ header_bytes places h ++ others → ⊥
+frames_no_header fit places [] h others fits f e = let stuck : ⊥ = cc in stuck
+frames_no_header fit places (m ∷ ms) h others fits f e =
+    frame_no_header fit places m h (frames_spelling ms) others fits f.0
+    (sym (flat_map-cons frame_spelling m ms) ∙ e)
 
-written_as : PacketsFit → (h : EpochHeader) (ms : List Message) (b : Bool) → is_first h ≡ b → AreFit ms →
-    Has b h (header_spelling h ++ frames_spelling ms)
-written_as fit h ms true e f = λ g others other k is.
-    frames_no_header fit ms g others f (sym (ap (λ t. t ++ frames_spelling ms) (header_unwritten h e)) ∙ is)
-written_as fit h ms false e f = (frames_spelling ms, ap (λ t. t ++ frames_spelling ms) (header_written h e))
+written_as : PacketsFit → (places : ℕ) (h : EpochHeader) (ms : List Message) (b : Bool) → is_untold places h ≡ b →
+    FitsPlaces places → AreFit ms → Has places b h (header_spelling places h ++ frames_spelling ms)
+written_as fit places h ms true e fits f = λ g others other k is.
+    frames_no_header fit places ms g others fits f
+    (sym (ap (λ t. t ++ frames_spelling ms) (header_unwritten places h e)) ∙ is)
+written_as fit places h ms false e fits f =
+    (frames_spelling ms, ap (λ t. t ++ frames_spelling ms) (header_written places h e))
 
 pub headers_written : PacketsFit → HeadersAreWritten
-headers_written fit h ms f = written_as fit h ms (is_first h) refl f
+headers_written fit places h ms fits f = written_as fit places h ms (is_untold places h) refl fits f
 
 -- frames are of one list of packets
 frames_one : FramesBeginNone → (ms ns : List Message) → AreFit ms → AreFit ns →
@@ -159,16 +192,17 @@ frames_one law (m ∷ ms) (n ∷ ns) f g h =
     ap (λ t. t ∷ ms) one.0 ∙ ap (λ t. n ∷ t) others
 
 -- what comes after a header
-after_header : PacketsFit → (g h : EpochHeader) (ms ns : List Message) → FitsHeader g → FitsHeader h → g ≡ h →
-    header_spelling g ++ frames_spelling ms ≡ header_spelling h ++ frames_spelling ns →
+after_header : (places : ℕ) (g h : EpochHeader) (ms ns : List Message) → g ≡ h →
+    header_spelling places g ++ frames_spelling ms ≡ header_spelling places h ++ frames_spelling ns →
     frames_spelling ms ≡ frames_spelling ns
-after_header fit g h ms ns f k same e =
-    let of_one : header_spelling h ++ frames_spelling ms ≡ header_spelling h ++ frames_spelling ns =
-    ap (λ x. header_spelling x ++ frames_spelling ms) (sym same) ∙ e in
-    append_cancel_left (header_spelling h) (frames_spelling ms) (frames_spelling ns) of_one
+after_header places g h ms ns same e =
+    let of_one : header_spelling places h ++ frames_spelling ms ≡ header_spelling places h ++ frames_spelling ns =
+    ap (λ x. header_spelling places x ++ frames_spelling ms) (sym same) ∙ e in
+    append_cancel_left (header_spelling places h) (frames_spelling ms) (frames_spelling ns) of_one
 
 pub streams_are_one : FramesBeginNone → PacketsFit → StreamsAreOne
-streams_are_one law fit g h ms ns f k am an e =
-    let same : g ≡ h = headers_are_one g h (header_spelling g ++ frames_spelling ms) f k
-    (headers_written fit g ms am) (subst (HasHeader h) (sym e) (headers_written fit h ns an)) in
-    (same, frames_one law ms ns am an (after_header fit g h ms ns f k same e))
+streams_are_one law fit places g h ms ns fits f k am an e =
+    let same : g ≡ h = headers_are_one places g h (header_spelling places g ++ frames_spelling ms) f k
+    (headers_written fit places g ms fits am)
+    (subst (HasHeader places h) (sym e) (headers_written fit places h ns fits an)) in
+    (same, frames_one law ms ns am an (after_header places g h ms ns same e))

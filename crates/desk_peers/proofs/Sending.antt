@@ -16,9 +16,9 @@ on_err (Ok a) p = tt
 on_err (Err e) p = p
 
 -- what goes over a connection for a packet, of whose header another is known
-pub text_by : (is_new : Bool) (p : EpochPacket) (h : EpochHeader) → h ≡ header_of p →
-    (if is_new then header_spelling h else []) ++ frame_spelling p.packet ≡ text_for is_new p
-text_by is_new p h e = ap (λ x. (if is_new then header_spelling x else []) ++ frame_spelling p.packet) e
+pub text_by : (places : ℕ) (is_new : Bool) (p : EpochPacket) (h : EpochHeader) → h ≡ header_of p →
+    (if is_new then header_spelling places h else []) ++ frame_spelling p.packet ≡ text_for places is_new p
+text_by places is_new p h e = ap (λ x. (if is_new then header_spelling places x else []) ++ frame_spelling p.packet) e
 
 -- a prefix of a text is one of a longer text
 pub prefix_longer : (old new : Option (List ℕ)) (a b : List ℕ) → AppendsPrefix old new a →
@@ -41,8 +41,9 @@ pub prefix_whole : (old new : Option (List ℕ)) (a : List ℕ) → Appends old 
 prefix_whole old new a h = (a, [], sym (append-nil a), h)
 
 -- over a new connection
-pub sent_new : (p : EpochPacket) (link : LinkState) (closed : Option (List (List ℕ))) (held : Option (List ℕ))
-    (sent : Bool) (new : LinkState) → IsSentOver (header_of p) (text_for true p) closed held sent new →
-    closed ≡ link.closed → link.current ≡ None → StartsEmpty link.closed held → IsSentOnce p link sent new
-sent_new p link closed held sent new h same none empty =
-    inr (inl (held, none, empty, subst (λ c. IsSentOver (header_of p) (text_for true p) c held sent new) same h))
+pub sent_new : (places : ℕ) (p : EpochPacket) (link : LinkState) (closed : Option (List (List ℕ)))
+    (held : Option (List ℕ)) (sent : Bool) (new : LinkState) →
+    IsSentOver (header_of p) (text_for places true p) closed held sent new →
+    closed ≡ link.closed → link.current ≡ None → StartsEmpty link.closed held → IsSentOnce places p link sent new
+sent_new places p link closed held sent new h same none empty =
+    inr (inl (held, none, empty, subst (λ c. IsSentOver (header_of p) (text_for places true p) c held sent new) same h))

@@ -26,8 +26,8 @@ Closes old contents (Some after) = (before : List (List ℕ)) × (text : List �
     × (old ≡ Some before) × (contents ≡ Some text) × (after ≡ before ++ text ∷ [])
 
 -- what goes over a connection for a packet: its header, where the connection is new, and its frame
-abbrev pub text_for : Bool → EpochPacket → List ℕ
-text_for is_new p = (if is_new then header_spelling (header_of p) else []) ++ frame_spelling p.packet
+abbrev pub text_for : ℕ → Bool → EpochPacket → List ℕ
+text_for places is_new p = (if is_new then header_spelling places (header_of p) else []) ++ frame_spelling p.packet
 
 -- The text was written whole to a connection of this header that held this, and it stays open; or a prefix was
 -- written, and the connection is closed.
@@ -52,15 +52,15 @@ IsReadyFor h old ready = IsUnder h ready × ((ready ≡ old) ⊎ ((ready.current
 
 -- The packet's frame was written over the open connection, which is of its header; or its header and its frame over a
 -- new one; or none could be made.
-abbrev pub IsSentOnce : EpochPacket → LinkState → Bool → LinkState → Type 0
-IsSentOnce p old sent new =
+abbrev pub IsSentOnce : ℕ → EpochPacket → LinkState → Bool → LinkState → Type 0
+IsSentOnce places p old sent new =
     ((held : Option (List ℕ)) × (old.current ≡ Some (header_of p, held))
-    × IsSentOver (header_of p) (text_for false p) old.closed held sent new)
+    × IsSentOver (header_of p) (text_for places false p) old.closed held sent new)
     ⊎ ((held : Option (List ℕ)) × (old.current ≡ None) × StartsEmpty old.closed held
-    × IsSentOver (header_of p) (text_for true p) old.closed held sent new)
+    × IsSentOver (header_of p) (text_for places true p) old.closed held sent new)
     ⊎ ((sent ≡ false) × (old.current ≡ None) × (new ≡ old))
 
 -- The same over the open connection, or over a new one once that was closed.
-abbrev pub IsSent : EpochPacket → LinkState → Bool → LinkState → Type 0
-IsSent p old sent new = (ready : LinkState) × IsReadyFor (header_of p) old ready
-    × IsSentOnce p ready sent new
+abbrev pub IsSent : ℕ → EpochPacket → LinkState → Bool → LinkState → Type 0
+IsSent places p old sent new = (ready : LinkState) × IsReadyFor (header_of p) old ready
+    × IsSentOnce places p ready sent new

@@ -6,11 +6,12 @@ ghost use Rattle.desk_types.specs.declared.refusal.Refusal.TheVariants as refusa
 ghost use Rattle.desk_frames.specs.Received.{ForFirst};
 ghost use Rattle.desk_mailbox.specs.Ends.{put_by, IsSameSender};
 ghost use Rattle.desk_peers.specs.Incoming.{comes_from, suits, HasPutOne, HasPutOf, HasPutOnlyOf};
-ghost use Rattle.desk_peers.specs.Incoming.{HasFramesAfter, HasTakenStream, EndsEarly, EndsFrames, IsTakeFault};
+ghost use Rattle.desk_peers.specs.Incoming.{HasFramesAfter, HasTakenWhole, EndsEarly, EndsFrames, IsTakeFault};
 ghost use Rattle.desk_peers.specs.declared.header.TheConstants.{MARK_BYTES};
 
-use crate::header::EpochHeader;
+use crate::header::{EpochHeader, EpochPlaces};
 use crate::start::{StreamStart, read_start, start_frames};
+use crate::watch::PacketWatch;
 use desk_codec::laws::spellings;
 use desk_frames::read_packets;
 use desk_mailbox::{Item, Sender};
@@ -36,7 +37,7 @@ fn suits(purpose: Purpose, packet: &Packet) -> bool
     match purpose {
         Purpose::Step => true,
         Purpose::Ask => match packet.message() {
-            Message::GetState { view, .. } => *view == 0,
+            Message::GetState { .. } => true,
             _ => false,
         },
         Purpose::Tell => match packet.message() {
@@ -46,10 +47,11 @@ fn suits(purpose: Purpose, packet: &Packet) -> bool
     }
 }
 
-/// Puts a packet into the mailbox where it comes from there and suits the purpose. It is false where the keeper has
-/// ended.
-fn put_packet<R: Wait>(
+/// Puts a packet into the mailbox where it comes from there and suits the purpose; it is seen before. It is false where
+/// the keeper has ended.
+fn put_packet<R: Wait, P: PacketWatch>(
     rt: &R,
+    watch: &P,
     header: EpochHeader,
     from: Option<u8>,
     sender: Sender<Item>,
@@ -63,11 +65,13 @@ fn put_packet<R: Wait>(
         return (sender, true);
     }
     let EpochHeader { epoch, purpose } = header;
-    let item = Item::Packet(EpochPacket {
+    let packet = EpochPacket {
         epoch,
         purpose,
         packet,
-    });
+    };
+    watch.see(&packet);
+    let item = Item::Packet(packet);
     let (sender, outcome) = sender.put(rt, item);
     match outcome {
         Ok(()) => (sender, true),
@@ -79,8 +83,9 @@ fn put_packet<R: Wait>(
 }
 
 /// Puts the packets that come from there and suit the purpose into the mailbox, in order, until the keeper has ended.
-fn put_packets<R: Wait>(
+fn put_packets<R: Wait, P: PacketWatch>(
     rt: &R,
+    watch: &P,
     header: EpochHeader,
     from: Option<u8>,
     sender: Sender<Item>,
@@ -94,7 +99,7 @@ fn put_packets<R: Wait>(
 {
     let mut sender = sender;
     for packet in packets {
-        let (back, put) = put_packet(rt, header, from, sender, packet);
+        let (back, put) = put_packet(rt, watch, header, from, sender, packet);
         sender = back;
         if !put {
             return (sender, Err(Refusal::NodeStopped));
@@ -104,8 +109,9 @@ fn put_packets<R: Wait>(
 }
 
 /// Puts the packets of a connection's frames into the mailbox, to the end of the stream.
-fn take_frames<I: Read, R: Wait>(
+fn take_frames<I: Read, R: Wait, P: PacketWatch>(
     rt: &R,
+    watch: &P,
     alloc: Global,
     from: Option<u8>,
     start: &StreamStart,
@@ -132,7 +138,7 @@ fn take_frames<I: Read, R: Wait>(
             Err(refusal) => return (sender, Err(refusal)),
             Ok(None) => return (sender, Ok(())),
             Ok(Some(packets)) => {
-                let (back, outcome) = put_packets(rt, start.header, from, sender, packets);
+                let (back, outcome) = put_packets(rt, watch, start.header, from, sender, packets);
                 sender = back;
                 if let Err(refusal) = outcome {
                     return (sender, Err(refusal));
@@ -142,18 +148,20 @@ fn take_frames<I: Read, R: Wait>(
     }
 }
 
-/// Reads a peer's stream to its end: its header, or none where it is of the first epoch's steps, and then frames. Each
-/// packet is put into the mailbox with the header's epoch and purpose, in order; it waits while the mailbox is full.
+/// Reads a peer's stream to its end: its header, or none where that is untold, and then frames. Each packet is put into
+/// the mailbox with the header's epoch and purpose, in order, and is seen before; it waits while the mailbox is full.
 /// Where it is known which node sends, a packet that names another one as its sender is left out; so is a packet of an
-/// ask that is no GetState of view 0, and one of a tell that is no NewState of view 0, from which no node takes
-/// anything.
+/// ask that is no GetState, and one of a tell that is no NewState of view 0, from which no node takes anything.
 ///
 /// It ends early where the keeper has ended (`NodeStopped`), where memory is refused (`WantOfMemory`), at bytes that
-/// neither a header nor a frame begins with (`FrameFault`), at a read that fails, an end inside the header or a frame,
-/// and after 4,294,967,295 reads of frames (`ReadFault`).
-pub fn take_packets<I: Read, R: Wait>(
+/// neither a header of these places nor a frame begins with (`FrameFault`), at a read that fails, an end inside the
+/// header or a frame, and after 4,294,967,295 reads of frames (`ReadFault`). Where epochs have fewer places than
+/// `LOG_ENTRIES`, a stream that begins with a frame is refused by `FrameFault` as well.
+pub fn take_packets<I: Read, R: Wait, P: PacketWatch>(
     rt: &R,
+    watch: &P,
     alloc: Global,
+    places: EpochPlaces,
     from: Option<u8>,
     reader: &mut I,
     sender: Sender<Item>,
@@ -162,16 +170,17 @@ pub fn take_packets<I: Read, R: Wait>(
     // It read to the end, and put the packets of the whole stream that are to be put.
     ensures end { OnOk result.1 (IsAtEnd (I.remaining reader.new)) }
     ensures ok { OnOk result.1
-        (HasTakenStream from (I.remaining reader.old) (I.remaining reader.new) (put_by sender) (put_by result.0) []) }
+        (HasTakenWhole places.places from (I.remaining reader.old) (I.remaining reader.new) (put_by sender)
+        (put_by result.0)) }
     // The first packets of what was read were put: all before the bad bytes or the read that failed.
-    ensures err { IfErr result.1 (λ r. EndsEarly from r (I.remaining reader.old) (I.remaining reader.new)
+    ensures err { IfErr result.1 (λ r. EndsEarly places.places from r (I.remaining reader.old) (I.remaining reader.new)
         (put_by sender) (put_by result.0)) }
     ensures fault { IfErr result.1 IsTakeFault }
     ensures from { HasPutOnlyOf from (put_by sender) (put_by result.0) }
 {
-    match read_start(alloc, reader) {
+    match read_start(alloc, places, reader) {
         Err(refusal) => (sender, Err(refusal)),
         Ok(None) => (sender, Ok(())),
-        Ok(Some(start)) => take_frames(rt, alloc, from, &start, reader, sender),
+        Ok(Some(start)) => take_frames(rt, watch, alloc, from, &start, reader, sender),
     }
 }

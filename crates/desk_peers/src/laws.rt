@@ -1,6 +1,7 @@
 //! Laws of headers.
 
-ghost use Rattle.desk_peers.specs.Headers.{FramesBeginNoHeader, HeadersAreOne, HeadersAreWritten, StreamsAreOne};
+ghost use Rattle.desk_peers.specs.Headers.{FramesBeginNoHeader, HeadersAreOne, HeadersAreWritten, OthersBeginNone};
+ghost use Rattle.desk_peers.specs.Headers.{StreamsAreOne};
 
 use desk_codec::laws::spellings;
 
@@ -12,6 +13,8 @@ pub fn headers()
     ensures one { HeadersAreOne }
     ensures reported { HeadersAreWritten }
     ensures streams { StreamsAreOne }
+    // A node whose epochs have other places takes none of them.
+    ensures others { OthersBeginNone }
 {
     spellings();
 }

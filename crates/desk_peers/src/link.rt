@@ -7,7 +7,7 @@ ghost use Rattle.desk_peers.specs.Headers.{header_of, header_spelling};
 ghost use Rattle.desk_peers.specs.Links.{text_for, IsSentOver, IsSentOnce, IsSent};
 ghost use Rattle.desk_peers.specs.Links.{IsReadyFor, IsUnder, EndsLink};
 
-use crate::header::{EpochHeader, write_header};
+use crate::header::{EpochHeader, EpochPlaces, write_header};
 use desk_frames::write_packet;
 use desk_output::flush;
 use desk_types::{EpochPacket, Refusal};
@@ -62,17 +62,18 @@ impl<C: Connect> Model for PeerLink<C> {
 fn write_beginning<W: Write>(
     connection: &mut W,
     is_new: bool,
+    places: EpochPlaces,
     header: EpochHeader,
 ) -> Result<(), Refusal>
     ensures ok { OnOk result (Appends (W.contents connection.old) (W.contents connection.new)
-        (if is_new then header_spelling header else [])) }
+        (if is_new then header_spelling places.places header else [])) }
     ensures err { OnErr result (AppendsPrefix (W.contents connection.old) (W.contents connection.new)
-        (if is_new then header_spelling header else [])) }
+        (if is_new then header_spelling places.places header else [])) }
 {
     if !is_new {
         return Ok(());
     }
-    write_header(connection, header)
+    write_header(connection, places, header)
 }
 
 /// Writes a packet's frame, after its header where the connection is new, and sends on what the connection holds back.
@@ -80,14 +81,17 @@ fn write_frame<W: Write>(
     alloc: Global,
     connection: &mut W,
     is_new: bool,
+    places: EpochPlaces,
     packet: &EpochPacket,
 ) -> Result<(), Refusal>
     ensures ok { OnOk result
-        (Appends (W.contents connection.old) (W.contents connection.new) (text_for is_new packet.now)) }
+        (Appends (W.contents connection.old) (W.contents connection.new)
+        (text_for places.places is_new packet.now)) }
     ensures err { OnErr result
-        (AppendsPrefix (W.contents connection.old) (W.contents connection.new) (text_for is_new packet.now)) }
+        (AppendsPrefix (W.contents connection.old) (W.contents connection.new)
+        (text_for places.places is_new packet.now)) }
 {
-    write_beginning(connection, is_new, EpochHeader::of_packet(packet))?;
+    write_beginning(connection, is_new, places, EpochHeader::of_packet(packet))?;
     if let Err(fault) = write_packet(alloc, connection, &packet.packet) {
         return Err(fault.refusal);
     }
@@ -111,14 +115,15 @@ impl<C: Connect> PeerLink<C> {
         connector: C,
         connection: C::Connection,
         is_new: bool,
+        places: EpochPlaces,
         packet: &EpochPacket,
     ) -> (PeerLink<C>, bool)
-        ensures { IsSentOver (header_of packet.now) (text_for is_new packet.now) (C.closed connector)
+        ensures { IsSentOver (header_of packet.now) (text_for places.places is_new packet.now) (C.closed connector)
             (C.Connection.contents connection) result.1 result.0 }
     {
         let mut connector = connector;
         let mut connection = connection;
-        match write_frame(alloc, &mut connection, is_new, packet) {
+        match write_frame(alloc, &mut connection, is_new, places, packet) {
             Ok(()) => {
                 let link = PeerLink {
                     connector,
@@ -165,20 +170,27 @@ impl<C: Connect> PeerLink<C> {
     }
 
     // Sends a packet over the connection that is there, else over a new one.
-    fn send_once(self, alloc: Global, packet: &EpochPacket) -> (PeerLink<C>, bool)
+    fn send_once(
+        self,
+        alloc: Global,
+        places: EpochPlaces,
+        packet: &EpochPacket,
+    ) -> (PeerLink<C>, bool)
         requires { IsUnder (header_of packet.now) self }
-        ensures { IsSentOnce packet.now self result.1 result.0 }
+        ensures { IsSentOnce places.places packet.now self result.1 result.0 }
     {
         let PeerLink {
             connector,
             connection,
         } = self;
         if let Some((_, connection)) = connection {
-            return PeerLink::send_over(alloc, connector, connection, false, packet);
+            return PeerLink::send_over(alloc, connector, connection, false, places, packet);
         }
         let mut connector = connector;
         match connector.connect() {
-            Some(connection) => PeerLink::send_over(alloc, connector, connection, true, packet),
+            Some(connection) => PeerLink::send_over(
+                alloc, connector, connection, true, places, packet,
+            ),
             None => (PeerLink::new(connector), false),
         }
     }
@@ -187,11 +199,16 @@ impl<C: Connect> PeerLink<C> {
     /// more, else over a new one, which begins with the packet's header. Where none can be made, and where writing
     /// fails or memory is refused, the packet is lost, and the answer false; a connection that failed is closed, with a
     /// part of the packet's frame, or of the header and the frame, at its end at most, or all of it.
-    pub fn send(self, alloc: Global, packet: &EpochPacket) -> (PeerLink<C>, bool)
-        ensures { IsSent packet.now self result.1 result.0 }
+    pub fn send(
+        self,
+        alloc: Global,
+        places: EpochPlaces,
+        packet: &EpochPacket,
+    ) -> (PeerLink<C>, bool)
+        ensures { IsSent places.places packet.now self result.1 result.0 }
     {
         self.for_packet(EpochHeader::of_packet(packet))
-            .send_once(alloc, packet)
+            .send_once(alloc, places, packet)
     }
 
     /// Closes the connection, if there is one.

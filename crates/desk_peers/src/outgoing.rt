@@ -6,6 +6,7 @@ ghost use Rattle.desk_mailbox.specs.declared.rule.SentItem.{SentItem};
 ghost use Rattle.desk_mailbox.specs.Ends.{taken_by, IsSameTaker};
 ghost use Rattle.desk_peers.specs.Outgoing.{HasCarried, packets_in};
 
+use crate::header::EpochPlaces;
 use crate::link::{Connect, PeerLink};
 use crate::queues::PeerQueue;
 use std::alloc::Global;
@@ -17,6 +18,7 @@ use std::sync::Wait;
 pub fn send_packets<C: Connect, R: Wait>(
     rt: &R,
     alloc: Global,
+    places: EpochPlaces,
     queue: PeerQueue,
     connector: C,
 ) -> (PeerQueue, C)
@@ -25,7 +27,7 @@ pub fn send_packets<C: Connect, R: Wait>(
     // What connections carried are packets that were taken off the queue, in their order, each under its own header.
     ensures carried { (taken : List (SentItem EpochPacket))
         × (taken_by result.0.taker ≡ taken_by queue.taker ++ taken)
-        × HasCarried (C.closed connector) (packets_in taken) (C.closed result.1) }
+        × HasCarried places.places (C.closed connector) (packets_in taken) (C.closed result.1) }
 {
     let PeerQueue { node, taker } = queue;
     let mut taker = taker;
@@ -36,7 +38,7 @@ pub fn send_packets<C: Connect, R: Wait>(
         match taken {
             None => return (PeerQueue { node, taker }, link.close()),
             Some(sent) => {
-                let (next, _) = link.send(alloc, &sent.item);
+                let (next, _) = link.send(alloc, places, &sent.item);
                 link = next;
                 drop(sent);
             }

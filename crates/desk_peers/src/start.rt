@@ -5,12 +5,12 @@ ghost use Rattle.std.specs.Int.{w32, from_be_bytes};
 ghost use Rattle.std.specs.Io.KnownBytes.{Consumes, IsAtEnd};
 ghost use Rattle.desk_types.specs.declared.refusal.Refusal.TheVariants as refusals;
 ghost use Rattle.desk_frames.specs.Stream.{BeginsNone, Holds};
-ghost use Rattle.desk_peers.specs.Headers.{header_spelling, is_first, FitsHeader};
+ghost use Rattle.desk_peers.specs.Headers.{header_mark, header_spelling, is_untold, FitsHeader};
 ghost use Rattle.desk_peers.specs.Incoming.{HasFilled, FailsToFill, BeginsUnder, IsNoBeginning, HasNoBeginning};
-ghost use Rattle.desk_peers.specs.declared.header.TheConstants.{HEADER_MARK, MARK_BYTES};
+ghost use Rattle.desk_peers.specs.declared.header.TheConstants.{MARK_BYTES};
 
 use crate::header::{
-    EpochHeader, FIRST_HEADER, HEADER_BYTES, HEADER_MARK, MARK_BYTES, mark_of, written_header,
+    EpochHeader, EpochPlaces, FIRST_HEADER, HEADER_BYTES, MARK_BYTES, mark_of, written_header,
 };
 use desk_codec::laws::spellings;
 use desk_frames::FrameReader;
@@ -46,15 +46,21 @@ fn read_up_to<I: Read>(reader: &mut I, bytes: &mut Vec<u8>, count: usize) -> Res
     Ok(())
 }
 
-/// Reads the rest of a header, whose mark was read. It is `FrameFault` where it has no purpose, or tells the first
-/// epoch's steps, and `ReadFault` where it is not whole.
-fn read_header<I: Read>(reader: &mut I, mark: Vec<u8>) -> Result<EpochHeader, Refusal>
+/// Reads the rest of a header, whose mark was read. It is `FrameFault` where it has no purpose, or tells one that is
+/// untold, and `ReadFault` where it is not whole.
+fn read_header<I: Read>(
+    places: EpochPlaces,
+    reader: &mut I,
+    mark: Vec<u8>,
+) -> Result<EpochHeader, Refusal>
     requires length { length mark.items ≡ MARK_BYTES }
-    requires mark { from_be_bytes w32 mark.items ≡ HEADER_MARK }
+    requires mark { from_be_bytes w32 mark.items ≡ header_mark places.places }
     ensures ok { IfOk result (λ h. (more : List ℕ) × Consumes (I.remaining reader.old) (I.remaining reader.new) more
-        × (mark.items ++ more ≡ header_spelling h) × (is_first h ≡ false) × FitsHeader h) }
+        × (mark.items ++ more ≡ header_spelling places.places h) × (is_untold places.places h ≡ false)
+        × FitsHeader h) }
     ensures err { IfErr result (λ r. (more : List ℕ)
-        × Consumes (I.remaining reader.old) (I.remaining reader.new) more × IsNoBeginning r (mark.items ++ more)) }
+        × Consumes (I.remaining reader.old) (I.remaining reader.new) more
+        × IsNoBeginning places.places r (mark.items ++ more)) }
 {
     spellings();
     let mut bytes = mark;
@@ -62,24 +68,25 @@ fn read_header<I: Read>(reader: &mut I, mark: Vec<u8>) -> Result<EpochHeader, Re
     if bytes.len() < HEADER_BYTES {
         return Err(Refusal::ReadFault);
     }
-    match written_header(bytes.as_slice()) {
+    match written_header(places, bytes.as_slice()) {
         Some(header) => Ok(header),
         None => Err(Refusal::FrameFault),
     }
 }
 
 /// Reads a stream's header, or its first four bytes where they are those of a frame; `None` where it has no byte.
-/// Refused are want of memory, by `WantOfMemory`, a header that is none, by `FrameFault`, and a read that fails or an
-/// end before that, by `ReadFault`.
+/// Refused are want of memory, by `WantOfMemory`, a header that is none or of other places, by `FrameFault`, and a read
+/// that fails or an end before that, by `ReadFault`.
 pub(crate) fn read_start<I: Read>(
     alloc: Global,
+    places: EpochPlaces,
     reader: &mut I,
 ) -> Result<Option<StreamStart>, Refusal>
     ensures none { IfOk result (λ start. start ≡ None →
         Consumes (I.remaining reader.old) (I.remaining reader.new) [] × IsAtEnd (I.remaining reader.new)) }
     ensures some { IfOk result (λ start. IfSome start (λ s.
-        BeginsUnder (I.remaining reader.old) (I.remaining reader.new) s.header s.bytes.items)) }
-    ensures err { IfErr result (λ r. HasNoBeginning r (I.remaining reader.old) (I.remaining reader.new)) }
+        BeginsUnder places.places (I.remaining reader.old) (I.remaining reader.new) s.header s.bytes.items)) }
+    ensures err { IfErr result (λ r. HasNoBeginning places.places r (I.remaining reader.old) (I.remaining reader.new)) }
 {
     spellings();
     let mut bytes = Vec::new(alloc);
@@ -90,16 +97,19 @@ pub(crate) fn read_start<I: Read>(
     if bytes.len() < MARK_BYTES {
         return Err(Refusal::ReadFault);
     }
-    if mark_of(bytes.as_slice()) != HEADER_MARK {
+    if mark_of(bytes.as_slice()) == places.mark() {
+        let header = read_header(places, reader, bytes)?;
         return Ok(Some(StreamStart {
-            header: FIRST_HEADER,
-            bytes,
+            header,
+            bytes: Vec::new(alloc),
         }));
     }
-    let header = read_header(reader, bytes)?;
+    if !places.is_untold(FIRST_HEADER) {
+        return Err(Refusal::FrameFault);
+    }
     Ok(Some(StreamStart {
-        header,
-        bytes: Vec::new(alloc),
+        header: FIRST_HEADER,
+        bytes,
     }))
 }
 

@@ -1,4 +1,5 @@
 use Rattle.desk_peers.proofs.Headers.{frames_begin_no_header, headers_are_one, headers_written, streams_are_one}
+use Rattle.desk_peers.proofs.Starts.{others_begin_none}
 use Rattle.desk_peers.proofs.laws.headers.Goals as goal
 
 pub returns-clause-frames : goal.returns-clause-frames
@@ -12,3 +13,6 @@ returns-clause-reported c = headers_written c.spellings.ensures.lengths
 
 pub returns-clause-streams : goal.returns-clause-streams
 returns-clause-streams c = streams_are_one c.spellings.ensures.frames_begin_none c.spellings.ensures.lengths
+
+pub returns-clause-others : goal.returns-clause-others
+returns-clause-others c = others_begin_none c.spellings.ensures.lengths

@@ -10,7 +10,7 @@ loop-init g c = record {
   taken = (
     [],
     sym (append-nil (taken_by c.args.queue.taker)),
-    goes_new (g.C.Connect.closed c.args.connector) c.new-link.result c.new-link.ensures,
+    goes_new c.args.places.places (g.C.Connect.closed c.args.connector) c.new-link.result c.new-link.ensures,
   );
 }
 
@@ -24,8 +24,8 @@ loop-preserved g c =
         i.taken.0 ++ sent ∷ [],
         rw c.in-Some-taken.is at c.take-back.ensures.took ∙ ap (λ t. t ++ sent ∷ []) i.taken.1
             ∙ append_assoc (taken_by c.args.queue.taker) i.taken.0 (sent ∷ []),
-        goes_one (g.C.Connect.closed c.args.connector) i.taken.0 sent c.loop.link c.send-next.result.0
-            c.send-next.result.1 i.taken.2 c.send-next.ensures,
+        goes_one c.args.places.places (g.C.Connect.closed c.args.connector) i.taken.0 sent c.loop.link
+            c.send-next.result.0 c.send-next.result.1 i.taken.2 c.send-next.ensures,
       );
     }
 
@@ -34,6 +34,6 @@ returns-in-None-taken-clause-carried g c =
     let i = c.loop.invariant in (
       i.taken.0,
       rw c.in-None-taken.is at c.take-back.ensures.took ∙ i.taken.1,
-      goes_to_end (g.C.Connect.closed c.args.connector) (packets_in i.taken.0) c.loop.link
+      goes_to_end c.args.places.places (g.C.Connect.closed c.args.connector) (packets_in i.taken.0) c.loop.link
           (g.C.Connect.closed c.close.result) i.taken.2 c.close.ensures,
     )

@@ -10,5 +10,5 @@ abbrev pub invariant-loop : goal.invariant-loop
 invariant-loop g l = record {
   same : IsSameTaker l.fn.queue.taker l.taker;
   taken : (taken : List (SentItem EpochPacket)) × (taken_by l.taker ≡ taken_by l.fn.queue.taker ++ taken)
-      × Goes (g.C.Connect.closed l.fn.connector) (packets_in taken) l.link;
+      × Goes l.fn.places.places (g.C.Connect.closed l.fn.connector) (packets_in taken) l.link;
 }

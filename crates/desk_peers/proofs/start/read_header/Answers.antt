@@ -12,8 +12,8 @@ returns-in_err-read_up_to-clause-err g c =
     rw (p.1, p.2) (
       h.more,
       h.read,
-      unread_header c.spellings.ensures.lengths c.args.mark.items h.more c.requires.length c.requires.mark
-          c.in_err-read_up_to.field-0.0 h.which,
+      unread_header c.spellings.ensures.lengths c.args.places.places c.args.places.fits c.args.mark.items h.more
+          c.requires.length c.requires.mark c.in_err-read_up_to.field-0.0 h.which,
     )
 
 pub returns-then-len-lt-HEADER_BYTES-clause-err : goal.returns-then-len-lt-HEADER_BYTES-clause-err
@@ -24,8 +24,8 @@ returns-then-len-lt-HEADER_BYTES-clause-err g c =
     let parts : length c.read_up_to.new.bytes.items ≡ length (c.args.mark.items ++ h.more) = ap length h.new_is in (
       h.more,
       h.read,
-      cut_header c.spellings.ensures.lengths c.args.mark.items h.more c.requires.length c.requires.mark _ refl
-          (omega (arith, few, same, parts)),
+      cut_header c.spellings.ensures.lengths c.args.places.places c.args.places.fits c.args.mark.items h.more
+          c.requires.length c.requires.mark _ refl (omega (arith, few, same, parts)),
     )
 
 pub returns-clause-err : goal.returns-clause-err
@@ -33,6 +33,8 @@ returns-clause-err g c =
     let h = c.in_ok-read_up_to.ensures.ok in (
       h.more,
       h.read,
-      bad_header c.spellings.ensures.lengths c.args.mark.items h.more c.requires.length c.requires.mark _ refl
-          (subst BeginsNoHeader (c.as_slice.ensures.value ∙ h.new_is) (c.written_header.ensures.none c.in-None.is)),
+      bad_header c.spellings.ensures.lengths c.args.places.places c.args.places.fits c.args.mark.items h.more
+          c.requires.length c.requires.mark _ refl
+          (subst (BeginsNoHeader c.args.places.places) (c.as_slice.ensures.value ∙ h.new_is)
+          (c.written_header.ensures.none c.in-None.is)),
     )
