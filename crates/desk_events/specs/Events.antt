@@ -27,6 +27,7 @@ abbrev pub event_name : Event → List ℕ
 event_name (events.Ports peers sessions) = codes "ports"
 event_name (events.LinkUp to) = codes "link_up"
 event_name (events.LinkDown to why) = codes "link_down"
+event_name (events.Epoch epoch) = codes "epoch"
 event_name (events.View view leader) = codes "view"
 event_name (events.Behind place) = codes "behind"
 event_name (events.Level place) = codes "level"
@@ -50,3 +51,4 @@ event_kind (events.Level place) = 5
 event_kind (events.SlowSave milliseconds) = 6
 event_kind (events.Refused at why) = refused_kind at
 event_kind (events.End why) = 8
+event_kind (events.Epoch epoch) = 10

@@ -16,6 +16,7 @@ event_members (events.Ports peers sessions) = codes "\"peers\":" ++ (decimal pee
 event_members (events.LinkUp to) = codes "\"to\":" ++ (decimal to ++ codes "}\n")
 event_members (events.LinkDown to why) = codes "\"to\":" ++ (decimal to
     ++ (codes ",\"why\":\"" ++ (why_word why ++ codes "\"}\n")))
+event_members (events.Epoch epoch) = codes "\"epoch\":" ++ (decimal epoch ++ codes "}\n")
 event_members (events.View view leader) = codes "\"view\":" ++ (decimal view
     ++ (codes ",\"leader\":" ++ (decimal leader ++ codes "}\n")))
 event_members (events.Behind place) = codes "\"place\":" ++ (decimal place ++ codes "}\n")

@@ -73,7 +73,7 @@ impl Door {
 }
 
 /// How many kinds of events there are.
-pub const KINDS: usize = 10;
+pub const KINDS: usize = 11;
 
 /// A change of a node that an operator asks about.
 #[derive(Clone, Copy)]
@@ -84,6 +84,8 @@ pub enum Event {
     LinkUp { to: u8 },
     /// It has none to another node: it had one, or never had, or has none for another reason than before.
     LinkDown { to: u8, why: Why },
+    /// It saved its first state in this epoch since it began it, or since its start.
+    Epoch { epoch: u64 },
     /// It is normal in a view, which this node leads, and was not before.
     View { view: u64, leader: u8 },
     /// It has committed up to this place, and asks another node for what follows.
@@ -107,6 +109,7 @@ impl Event {
             Event::Ports { .. } => "ports",
             Event::LinkUp { .. } => "link_up",
             Event::LinkDown { .. } => "link_down",
+            Event::Epoch { .. } => "epoch",
             Event::View { .. } => "view",
             Event::Behind { .. } => "behind",
             Event::Level { .. } => "level",
@@ -131,6 +134,7 @@ impl Event {
             Event::SlowSave { .. } => 6,
             Event::Refused { at, .. } => at.refused_kind(),
             Event::End { .. } => 8,
+            Event::Epoch { .. } => 10,
         }
     }
 }

@@ -3,6 +3,7 @@
 #![tactic(auto)]
 
 mod event;
+mod heard;
 mod line;
 mod log;
 mod rates;

@@ -65,6 +65,9 @@ fn write_members<W: Write>(writer: &mut W, event: &Event) -> Result<(), Refusal>
                 Text("\"}\n"),
             ],
         ),
+        Event::Epoch { epoch } => {
+            write_parts(writer, &[Text("\"epoch\":"), Number(*epoch), Text("}\n")])
+        }
         Event::View { view, leader } => write_parts(
             writer,
             &[

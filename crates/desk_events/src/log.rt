@@ -1,8 +1,9 @@
 //! Where the threads of a node put events.
 
 use crate::event::Event;
+use crate::heard::{heard_point, point};
 use crossbeam_channel::{Receiver, Sender, TrySendError, bounded};
-use desk_types::WantOfMemory;
+use desk_types::{EpochPacket, WantOfMemory};
 use std::alloc::Global;
 use std::rt::Clock;
 use std::sync::atomic::{AtomicBool, AtomicU64, Ordering};
@@ -19,6 +20,12 @@ struct Known {
     lost: AtomicU64,
     /// Whether it was announced last that the node lacks entries.
     is_behind: AtomicBool,
+    /// The greatest point of which a packet of another node told.
+    heard: AtomicU64,
+    /// The view of the state that was saved last.
+    saved_view: AtomicU64,
+    /// The last point of the log that was saved last.
+    saved: AtomicU64,
 }
 
 /// One end of the queue of events.
@@ -78,6 +85,9 @@ impl EventLog {
         let known = Known {
             lost: AtomicU64::new(0),
             is_behind: AtomicBool::new(false),
+            heard: AtomicU64::new(0),
+            saved_view: AtomicU64::new(0),
+            saved: AtomicU64::new(0),
         };
         let Ok(known) = Arc::new(alloc, known) else {
             return Err(WantOfMemory);
@@ -120,6 +130,44 @@ impl EventLog {
             Err(_) => {
                 known.lost.fetch_add(1, Ordering::SeqCst);
             }
+        }
+    }
+
+    /// Notes how far a packet of another node says that the history goes.
+    pub fn hear(&self, packet: &EpochPacket) {
+        if let Some(Putting { to: _, known }) = &self.putting {
+            known.heard.fetch_max(heard_point(packet), Ordering::SeqCst);
+        }
+    }
+
+    /// Whether a packet told of a later epoch, or of a later place of this epoch that is committed. False without a
+    /// log.
+    pub fn has_heard_after(&self, epoch: u64, place: u64) -> bool {
+        match &self.putting {
+            Some(Putting { to: _, known }) => {
+                known.heard.load(Ordering::SeqCst) > point(epoch, place)
+            }
+            None => false,
+        }
+    }
+
+    /// Notes the view of a state that was saved, and how many entries its log of an epoch has.
+    pub fn note_saved(&self, epoch: u64, view: u64, entries: u64) {
+        if let Some(Putting { to: _, known }) = &self.putting {
+            known.saved_view.store(view, Ordering::SeqCst);
+            known.saved.store(point(epoch, entries), Ordering::SeqCst);
+        }
+    }
+
+    /// Whether the state that was saved last is of this view or a later one, and no packet told of a committed place
+    /// after its log. Who asked for entries in this view has got them then. False without a log.
+    pub fn has_all_since(&self, view: u64) -> bool {
+        match &self.putting {
+            Some(Putting { to: _, known }) => {
+                view <= known.saved_view.load(Ordering::SeqCst)
+                    && known.heard.load(Ordering::SeqCst) <= known.saved.load(Ordering::SeqCst)
+            }
+            None => false,
         }
     }
 

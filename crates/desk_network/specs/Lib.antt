@@ -1,4 +1,5 @@
 pub mod Ends
+pub mod Lacking
 pub mod Putting
 pub mod Queued
 pub mod QueuedInOrder

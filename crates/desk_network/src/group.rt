@@ -122,8 +122,9 @@ fn join_nodes<R: Threads>(
 }
 
 /// Serves as all nodes of a group, whose epochs have so many places, in entries, 1 to 65,536, until the standard input
-/// ends; `ready` is written once all serve. It ends by the first fault of a node: `WantOfMemory`, or `StoreFault` of
-/// its store in memory; and by `WriteFault` where `ready` could not be written.
+/// ends; `ready` is written once all serve. It ends by the first fault of a node: `WantOfMemory`, `StoreFault` of its
+/// store in memory, or `NodeStopped` where another node acts in its place; and by `WriteFault` where `ready` could not
+/// be written.
 pub fn serve_group<R: NodeRuntime + Input, W: Write>(
     rt: &R,
     alloc: Global,

@@ -3,7 +3,7 @@
 ghost use Rattle.std.specs.Prelude.{◌≡◌, ◌<◌, false, map, IfOk, OnOk, IfErr};
 ghost use Rattle.desk_types.specs.Group.{IsGroup};
 ghost use Rattle.desk_types.specs.Lists.{others_below};
-ghost use Rattle.desk_types.specs.Refusal.{IsStoreRefusal};
+ghost use Rattle.desk_replica.specs.Endings.{IsEndingRefusal};
 ghost use Rattle.desk_network.specs.Ends.{HasRunningStore};
 
 use crate::catching_up::CatchingUp;
@@ -25,7 +25,7 @@ use std::thread::{Promise, PromisedHandle, Threads};
 pub struct NodeEnd<T, S> {
     /// What its states were saved to. They are to be closed.
     pub stores: EndedStores<T, S>,
-    /// Ok after a stop, else the fault.
+    /// Ok after a stop, else what ended the node: `StoreFault`, or `NodeStopped` where another node acts in its place.
     pub outcome: Result<(), Refusal>,
 }
 
@@ -63,21 +63,21 @@ impl<W: Wait + Drop> Out for QueuedPackets<W> {
     ghost takes_then = { λ old mid new first last one more. queued_then _ _ _ _ _ one more };
 }
 
-/// A keeper's thread ends by no other fault than that of its store, and by that wherever its store has failed.
+/// A keeper's thread ends by no other refusal than what its keeper ends by, and not well where its store has failed.
 #[derive(Clone, Copy)]
-pub(crate) struct EndsByStore;
+pub(crate) struct EndsByKeeper;
 
-impl<T, S: StateStore> Promise<NodeEnd<T, S>> for EndsByStore {
+impl<T, S: StateStore> Promise<NodeEnd<T, S>> for EndsByKeeper {
     ghost use Rattle.std.specs.Prelude.{OnOk, IfErr};
-    ghost use Rattle.desk_types.specs.Refusal.{IsStoreRefusal};
+    ghost use Rattle.desk_replica.specs.Endings.{IsEndingRefusal};
     ghost use Rattle.desk_network.specs.Ends.{HasRunningStore};
 
-    ghost kept_by = { λ p end. IfErr end.outcome IsStoreRefusal
+    ghost kept_by = { λ p end. IfErr end.outcome IsEndingRefusal
         × OnOk end.outcome (HasRunningStore S.StateStore end.stores) };
 }
 
 /// The thread of a node's keeper.
-pub(crate) type KeeperThread<T, S> = PromisedHandle<NodeEnd<T, S>, EndsByStore>;
+pub(crate) type KeeperThread<T, S> = PromisedHandle<NodeEnd<T, S>, EndsByKeeper>;
 
 /// Runs the keeper to its end.
 fn keep<B: BoardName, T: EpochStores + Drop, R: Wait + Drop>(
@@ -86,7 +86,7 @@ fn keep<B: BoardName, T: EpochStores + Drop, R: Wait + Drop>(
     out: QueuedPackets<R>,
 ) -> NodeEnd<T, T::Store>
     requires running { guard.keeper.value.stopped ≡ false }
-    ensures fault { IfErr result.outcome IsStoreRefusal }
+    ensures fault { IfErr result.outcome IsEndingRefusal }
     ensures running { OnOk result.outcome (HasRunningStore T.Store.StateStore result.stores) }
 {
     let mut out = out;
@@ -131,7 +131,7 @@ where
         queues,
         catching_up,
     };
-    match thread::spawn_with(rt, EndsByStore, move || keep(&handle, guard, out)) {
+    match thread::spawn_with(rt, EndsByKeeper, move || keep(&handle, guard, out)) {
         Ok(thread) => Ok((thread, takers)),
         Err(refused) => {
             drop(refused);

@@ -19,7 +19,7 @@ use desk_epoch_opening::{RefusedOpening, open_epochs};
 use desk_epoch_stores::EpochStores;
 use desk_events::EventLog;
 use desk_mailbox::{Item, Sender};
-use desk_peers::PeerQueue;
+use desk_peers::{EpochPlaces, PeerQueue};
 use desk_published::{BoardName, NewHistory};
 use desk_sessions::{KeeperWords, Wire};
 use desk_threads::{PEERS, SessionEnds};
@@ -78,6 +78,7 @@ fn start_sessions<B: BoardName + Send + Sync + 'static, R: NodeRuntime>(
 fn start_around<B: BoardName + Send + Sync + 'static, R: NodeRuntime>(
     rt: &R,
     alloc: Global,
+    places: EpochPlaces,
     ports: &NodePorts,
     mut senders: Vec<Sender<Item>>,
     sessions: Vec<SessionEnds<B>>,
@@ -91,7 +92,7 @@ fn start_around<B: BoardName + Send + Sync + 'static, R: NodeRuntime>(
         let Some(sender) = senders.pop() else {
             return Err(WantOfMemory);
         };
-        start_peer(rt, alloc, ports, sender, log.share()?)?;
+        start_peer(rt, alloc, places, ports, sender, log.share()?)?;
     }
     let Some(timer) = senders.pop() else {
         return Err(WantOfMemory);
@@ -110,6 +111,20 @@ struct Dialler {
 }
 
 impl Dialler {
+    /// What the owner's node needs to reach the others of a group with this address. Err where memory is refused.
+    fn new(address: GroupAddress, owner: &Owner) -> Result<Dialler, WantOfMemory>
+        ensures address { IfOk result (λ d. d.address ≡ address) }
+        ensures from { IfOk result (λ d. d.from ≡ owner.now.id) }
+        ensures group { IfOk result (λ d. (d.nodes ≡ owner.now.n) × (d.domain ≡ owner.now.domain)) }
+    {
+        Ok(Dialler {
+            address,
+            from: owner.id,
+            nodes: owner.n,
+            domain: owner.domain.copy()?,
+        })
+    }
+
     /// Where another node takes packets.
     fn peer(&self, alloc: Global, node: u8) -> Result<PeerAddress, WantOfMemory>
         ensures host { IfOk result (λ peer.
@@ -145,13 +160,14 @@ impl Dialler {
 fn start_links<R: NodeRuntime>(
     rt: &R,
     alloc: Global,
+    places: EpochPlaces,
     dialler: &Dialler,
     queues: Vec<PeerQueue>,
     log: &EventLog,
 ) -> Result<(), WantOfMemory> {
     for queue in queues {
         let peer = dialler.peer(alloc, queue.node)?;
-        start_link(rt, alloc, peer, queue, log.share()?)?;
+        start_link(rt, alloc, places, peer, queue, log.share()?)?;
     }
     Ok(())
 }
@@ -186,12 +202,10 @@ where
         log,
     } = start;
     let (id, n) = (owner.id, owner.n);
-    let dialler = Dialler {
-        address,
-        from: id,
-        nodes: n,
-        domain: owner.domain.copy()?,
+    let places = EpochPlaces {
+        places: epochs.places,
     };
+    let dialler = Dialler::new(address, &owner)?;
     let of_keeper = log.share()?;
     let (keeper, senders, sessions) = open_epochs::<B, T, R>(
         rt,
@@ -204,8 +218,8 @@ where
     )?;
     // where a thread around it can't be started, its senders go, and it ends
     let (thread, takers) = start_keeper(rt, alloc, id, n, keeper, of_keeper)?;
-    start_links(rt, alloc, &dialler, takers, &log)?;
-    start_around(rt, alloc, &ports, senders, sessions, ends, &log)?;
+    start_links(rt, alloc, places, &dialler, takers, &log)?;
+    start_around(rt, alloc, places, &ports, senders, sessions, ends, &log)?;
     Ok(thread)
 }
 

@@ -134,11 +134,11 @@ fn unwatched_refusal<T, R: Drop>(refused: RefusedOpening<WatchedStores<T, R>>) -
     RefusedOpening { refusal, stores }
 }
 
-/// Serves as the node whose states are kept by what these stores open, until the standard input ends or a store fails;
-/// `ready` is written once the node serves. It ends by `StoreFault` where a store fails, and by `WriteFault` where
-/// `ready` could not be written. Err is a node that was not started: by `WantOfMemory`, by `StoreFault` where a store
-/// fails, by `WrongFile` where one is missing or another node's, and by `NodeStopped` where another node acts in its
-/// place.
+/// Serves as the node whose states are kept by what these stores open, until the standard input ends, a store fails or
+/// the node is replaced; `ready` is written once the node serves. It ends by `StoreFault` where a store fails, by
+/// `NodeStopped` where another node acts in its place, and by `WriteFault` where `ready` could not be written. Err is a
+/// node that was not started: by `WantOfMemory`, by `StoreFault` where a store fails, by `WrongFile` where one is
+/// missing or another node's, and by `NodeStopped` where another node acts in its place.
 pub fn serve_node<T: EpochStores + Drop + Send + 'static, R: NodeRuntime + Input, W: Write>(
     rt: &R,
     alloc: Global,

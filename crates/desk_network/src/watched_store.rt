@@ -1,12 +1,14 @@
 //! The store of a node whose saves are announced.
 
-ghost use Rattle.std.specs.Prelude.{◌≡◌, ◌<◌};
+ghost use Rattle.std.specs.Prelude.{◌≡◌, ◌<◌, Some};
 ghost use Rattle.std.specs.Option.{option_map};
 ghost use Rattle.desk_log.specs.Quorum.{primary};
-ghost use Rattle.desk_network.specs.Watched.{view_begun, view_event, view_after};
+ghost use Rattle.desk_network.specs.Watched.{epoch_event, level_after, view_begun, view_event, view_after};
+ghost use Rattle.desk_network.specs.Watched.{IsUntold};
 
 use desk_events::{Event, EventLog};
 use desk_log::{Saved, StateStore};
+use desk_types::limits::LOG_ENTRIES;
 use desk_types::{Refusal, WantOfMemory};
 use std::rt::Clock;
 use std::sync::Wait;
@@ -21,6 +23,8 @@ pub(crate) struct SaveNews<R> {
     log: EventLog,
     /// How many nodes its group has.
     nodes: u8,
+    /// The epoch of which states are saved.
+    epoch: u64,
     /// The view that was announced last, where one was.
     view: Option<u64>,
     /// How many entries the log had that was saved last, where one was.
@@ -35,6 +39,7 @@ impl<R: Drop> Drop for SaveNews<R> {
             rt: _,
             log: _,
             nodes: _,
+            epoch: _,
             view: _,
             entries: _,
         } = self;
@@ -51,14 +56,32 @@ fn view_begun(last: Option<u64>, saved: &Saved) -> Option<u64>
     Some(saved.view())
 }
 
+/// The place after which nothing may have been heard of where the node is level at a save of so many entries, and None
+/// where the save has nothing to do with that. Whether a view begins counts, since who asked for entries at a change of
+/// view may have lacked none.
+fn level_after(before: Option<u64>, entries: u64, begins: bool) -> Option<u64>
+    ensures { result ≡ level_after before entries begins }
+{
+    let Some(before) = before else {
+        return Some(entries);
+    };
+    if before < entries || begins {
+        Some(LOG_ENTRIES)
+    } else {
+        None
+    }
+}
+
 impl<R: Clock + Wait> SaveNews<R> {
-    pub(crate) fn new(rt: R, log: EventLog, nodes: u8) -> SaveNews<R>
+    pub(crate) fn new(rt: R, log: EventLog, nodes: u8, epoch: u64) -> SaveNews<R>
         requires { 0 < nodes }
+        ensures { IsUntold epoch result.epoch result.entries }
     {
         SaveNews {
             rt,
             log,
             nodes,
+            epoch,
             view: None,
             entries: None,
         }
@@ -90,14 +113,29 @@ impl<R: Clock + Wait> SaveNews<R> {
         }
     }
 
-    /// Tells of a log that has grown, where the node lacked entries.
-    fn tell_entries(&mut self, entries: u64) {
-        if let Some(before) = self.entries {
-            if before < entries {
-                self.log.tell_level(&self.rt, entries);
-            }
+    /// What is to be announced of the epoch of a log of so many entries that was saved, where it begins.
+    fn epoch_news(&mut self, entries: u64) -> Option<Event>
+        ensures event { result ≡ epoch_event self.old.entries self.old.epoch }
+        ensures entries { self.new.entries ≡ Some entries }
+    {
+        match self.entries.replace(entries) {
+            None => Some(Event::Epoch { epoch: self.epoch }),
+            Some(_) => None,
         }
-        self.entries = Some(entries);
+    }
+
+    /// Tells what is to be announced, if anything.
+    fn tell_news(&self, news: Option<Event>) {
+        if let Some(event) = news {
+            self.log.tell(&self.rt, event);
+        }
+    }
+
+    /// Tells that the node lacks nothing, where nothing after a place of its epoch was heard of.
+    fn tell_level(&self, place: u64, entries: u64) {
+        if !self.log.has_heard_after(self.epoch, place) {
+            self.log.tell_level(&self.rt, entries);
+        }
     }
 
     /// What is to be announced of the view of a state that was saved, where it begins.
@@ -119,16 +157,20 @@ impl<R: Clock + Wait> SaveNews<R> {
         if let Some(begun) = begun {
             self.tell_time(begun);
         }
-        self.tell_entries(saved.log().len());
-        if let Some(event) = self.view_news(saved) {
-            self.log.tell(&self.rt, event);
-            // Who asked for entries at a change of view may have lacked none.
-            self.log.tell_level(&self.rt, saved.log().len());
+        let (before, entries) = (self.entries, saved.log().len());
+        self.log.note_saved(self.epoch, saved.view(), entries);
+        let epoch = self.epoch_news(entries);
+        let view = self.view_news(saved);
+        let after = level_after(before, entries, view.is_some());
+        self.tell_news(epoch);
+        self.tell_news(view);
+        if let Some(place) = after {
+            self.tell_level(place, entries);
         }
     }
 }
 
-/// A store of which it is announced how long saves take, and in which views the node is normal.
+/// A store of which it is announced that its epoch begins, how long saves take, and in which views the node is normal.
 pub(crate) struct WatchedStore<S, R> {
     store: S,
     news: SaveNews<R>,
@@ -143,7 +185,8 @@ impl<S: Drop, R: Drop> Drop for WatchedStore<S, R> {
 
 impl<S, R> WatchedStore<S, R> {
     pub(crate) fn new(store: S, news: SaveNews<R>) -> WatchedStore<S, R>
-        ensures { result.store ≡ store }
+        ensures store { result.store ≡ store }
+        ensures news { result.news ≡ news }
     {
         WatchedStore { store, news }
     }

@@ -1,6 +1,9 @@
 //! The stores of a node's epochs, whose saves are announced.
 
-ghost use Rattle.std.specs.Prelude.{◌≡◌, ◌<◌};
+ghost use Rattle.std.specs.Prelude.{◌≡◌, ◌<◌, ℕ, false, IfOk, IfErr};
+ghost use Rattle.desk_log.specs.SavedValue.{SavedValue};
+ghost use Rattle.desk_epoch_stores.specs.Refusals.{IsEpochRefusal};
+ghost use Rattle.desk_network.specs.Watched.{IsUntold};
 
 use crate::watched_store::{SaveNews, WatchedStore};
 use desk_epoch_stores::EpochStores;
@@ -9,8 +12,8 @@ use desk_types::Refusal;
 use std::rt::Clock;
 use std::sync::Wait;
 
-/// Opens stores of which it is announced how long saves take, and in which views the node is normal. What is announced
-/// begins anew with each epoch, as its views do.
+/// Opens stores of which it is announced that the node begins their epoch, how long saves take, and in which views the
+/// node is normal. What is announced begins anew with each epoch, as its views do.
 pub(crate) struct WatchedStores<T, R> {
     stores: T,
     rt: R,
@@ -66,10 +69,17 @@ impl<T: EpochStores, R: Clock + Wait + Copy + Drop> EpochStores for WatchedStore
 
     ghost may_hold = { λ w epoch saved. T.may_hold w.stores epoch saved };
 
-    fn open(&mut self, epoch: u64) -> Result<WatchedStore<T::Store, R>, Refusal> {
+    fn open(&mut self, epoch: u64) -> Result<WatchedStore<T::Store, R>, Refusal>
+        ensures running { IfOk result (λ watched. T.Store.stopped watched.store ≡ false) }
+        ensures held { IfOk result (λ watched. T.may_hold self.old.stores epoch (T.Store.last watched.store)) }
+        ensures fault { IfErr result IsEpochRefusal }
+        ensures same { (e : ℕ) → (s : SavedValue) → T.may_hold self.new.stores e s → T.may_hold self.old.stores e s }
+        // What is announced of it is of this epoch, of which nothing was announced.
+        ensures news { IfOk result (λ watched. IsUntold epoch watched.news.epoch watched.news.entries) }
+    {
         let log = self.log.share()?;
         let store = self.stores.open(epoch)?;
-        let news = SaveNews::new(self.rt, log, self.nodes);
+        let news = SaveNews::new(self.rt, log, self.nodes, epoch);
         Ok(WatchedStore::new(store, news))
     }
 

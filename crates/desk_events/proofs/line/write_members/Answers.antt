@@ -14,6 +14,10 @@ returns-in-LinkDown g c =
     wrote_members _ _ _ _ _ c.in-LinkDown.is (wrote_text _ _ _ _ _ (link_down_is _ _ _ c.word.ensures)
     c.write_parts-in-LinkDown.ensures.ok)
 
+pub returns-in-Epoch : goal.returns-in-Epoch
+returns-in-Epoch g c =
+    wrote_members _ _ _ _ _ c.in-Epoch.is c.write_parts-in-Epoch.ensures.ok
+
 pub returns-in-View : goal.returns-in-View
 returns-in-View g c =
     wrote_members _ _ _ _ _ c.in-View.is c.write_parts-in-View.ensures.ok
