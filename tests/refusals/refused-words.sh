@@ -108,6 +108,7 @@ Options:
       --log                          Tells each change of the node in a line of JSON on standard error
       --next                         Makes FILE.1 after a full FILE that has none, as a program of one file leaves it
       --epoch-places <epoch-places>  For trials: how many places an epoch has at all nodes, 1 to 65536; else 65536
+      --member <member>              The token of a node that takes the place of a lost one, 1 to 1000000000000
       --hosts <hosts>                The hosts of the nodes, in their order, with commas between; else 127.0.0.1
       --key <key>                    The file of the key of nodes, and of clients where they have none of their own
       --client-key <client-key>      The file of the key of clients, where they have one of their own
@@ -455,7 +456,18 @@ Usage: ${serve/serve/serve [OPTIONS]}
 For more information, try '--help'." 0 3 desk.example 4000 --next 1
 misused "$cluster" "error: unexpected argument '--next' found" \
     cluster --nodes 3 --domain desk.example --port 4000 --next
-for word in --next --epoch-places; do
+bad_member() {
+    serving "error: invalid value '$1' for '--member <member>': $2
+
+For more information, try '--help'." 0 3 desk.example 4000 "--member=$1"
+}
+for token in 0 1000000000001 -1; do bad_member "$token" "$token is not in 1..=1000000000000"; done
+bad_member 9223372036854775808 'number too large to fit in target type'
+bad_member node 'invalid digit found in string'
+bad_member '' 'cannot parse integer from empty string'
+misused "$cluster" "error: unexpected argument '--member' found" \
+    cluster --nodes 3 --domain desk.example --port 4000 --member 1
+for word in --next --epoch-places --member; do
     misused "$answer" "error: unexpected argument '$word' found" \
         answer --node 0 --nodes 3 --domain desk.example "--file=$folder/unmade.db" "$word"
 done

@@ -1,1 +1,3 @@
+pub mod Additions
 pub mod Making
+pub mod Members

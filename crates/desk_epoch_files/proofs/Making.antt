@@ -61,8 +61,8 @@ others_on g owner epoch found asked store opened (Err cause) used =
     λ blames. (asked, inr (inr (store, opened, used blames)))
 
 -- what was refused was found by its name
-pub refused_on : {H : Type 0} (P Q : H → Type 0) (B : Cause → Type 0) (found : H) → P found →
-    (r : Result (Unit {0}) Cause) → IfErr r (λ cause. B cause → Q found) →
+pub refused_on : {H A : Type 0} (P Q : H → Type 0) (B : Cause → Type 0) (found : H) → P found →
+    (r : Result A Cause) → IfErr r (λ cause. B cause → Q found) →
     IfErr r (λ cause. B cause → (x : H) × P x × Q x)
 refused_on P Q B found held (Ok done) other = tt
 refused_on P Q B found held (Err cause) other = λ blames. (found, held, other blames)

@@ -1,5 +1,6 @@
 -- The refusals of files of epochs, by their causes.
-use Rattle.std.specs.Prelude.{◌≡◌, Result, Err, ⊤}
+use Rattle.std.specs.Prelude.{◌≡◌, Bool, false, Result, Ok, Err, ⊤}
+use Rattle.sqlite.specs.declared.error.Error.{Error}
 use Rattle.desk_types.specs.declared.refusal.Refusal.{Refusal}
 use Rattle.desk_types.specs.declared.refusal.Refusal.TheVariants as refusals
 use Rattle.desk_file.specs.Faults.{unopened_fault}
@@ -21,6 +22,11 @@ cause_refusal causes.NoTable = refusals.StoreFault
 cause_refusal causes.OtherEpoch = refusals.WrongFile
 cause_refusal (causes.NoState end) = unopened_refusal end.outcome
 cause_refusal causes.Used = refusals.WrongFile
+cause_refusal causes.NoMemberTable = refusals.StoreFault
+cause_refusal causes.OtherMember = refusals.WrongFile
+cause_refusal (causes.OtherPlaces places) = refusals.WrongFile
+cause_refusal causes.OtherToken = refusals.WrongFile
+cause_refusal causes.NoToken = refusals.WrongFile
 
 -- What the file holds is the cause: it is none of the node's that is, or may become, the epoch's.
 abbrev pub BlamesFile : Cause → Type 0
@@ -28,3 +34,18 @@ BlamesFile causes.OtherEpoch = ⊤
 BlamesFile causes.Used = ⊤
 BlamesFile (causes.NoState end) = unopened_refusal end.outcome ≡ refusals.WrongFile
 BlamesFile _ = ⊥
+
+-- What a first file preserves is the cause: it is that of a node which was started otherwise, or no node's.
+abbrev pub BlamesMember : Cause → Type 0
+BlamesMember causes.OtherMember = ⊤
+BlamesMember (causes.OtherPlaces places) = ⊤
+BlamesMember causes.OtherToken = ⊤
+BlamesMember causes.NoToken = ⊤
+BlamesMember _ = ⊥
+
+-- The file was not found: it is missing, or the look for it failed, or memory for its name was refused.
+abbrev pub IsUnfound : (Result Bool Error → Type 0) → Cause → Type 0
+IsUnfound may_find causes.NoMemory = ⊤
+IsUnfound may_find causes.Missing = may_find (Ok false)
+IsUnfound may_find (causes.Unopened error) = may_find (Err error)
+IsUnfound may_find _ = ⊥

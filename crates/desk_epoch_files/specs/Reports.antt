@@ -1,8 +1,10 @@
 -- What is reported where a file of an epoch is not opened.
-use Rattle.std.specs.Prelude.{ℕ, Bool, false, Option, Some, None, ◌&&◌, not, nat_lt, if◌then◌else◌}
+use Rattle.std.specs.Prelude.{ℕ, Bool, false, List, ◌++◌, Option, Some, None, ◌&&◌, not, nat_lt, if◌then◌else◌, codes}
 use Rattle.desk_types.specs.declared.refusal.Refusal.{Refusal}
 use Rattle.desk_types.specs.declared.refusal.Refusal.TheVariants as refusals
 use Rattle.desk_types.specs.Refusal.{is_want_of_memory}
+use Rattle.desk_output.specs.Prefixes.{AppendsPrefix}
+use Rattle.desk_output.specs.Telling.{printed_line}
 use Rattle.desk_epoch_files.specs.declared.open_error.OpenError.{OpenError}
 use Rattle.desk_epoch_files.specs.Causes.{cause_refusal}
 
@@ -26,3 +28,13 @@ abbrev pub ended_refusal : Option OpenError → ℕ → Refusal → Refusal
 ended_refusal error epoch refusals.StoreFault =
     if is_error_after error epoch then reported_refusal error refusals.StoreFault else refusals.StoreFault
 ended_refusal _ _ refusal = refusal
+
+-- known bytes grow by a prefix of the line of `NodeStopped` and of one that tells of the node in this one's place
+abbrev pub TellsReplaced : Option (List ℕ) → Option (List ℕ) → Type 0
+TellsReplaced old new = AppendsPrefix old new
+    (printed_line refusals.NodeStopped ++ codes "desk: another node acts in the place of this one\n")
+
+-- known bytes grow by a prefix of the line of `WrongFile` and of one that tells that the file of this name is missing
+abbrev pub TellsMissing : Option (List ℕ) → Option (List ℕ) → List ℕ → Type 0
+TellsMissing old new name = AppendsPrefix old new
+    (printed_line refusals.WrongFile ++ (codes "desk: " ++ (name ++ codes " is missing\n")))

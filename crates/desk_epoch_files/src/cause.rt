@@ -3,7 +3,7 @@
 ghost use Rattle.std.specs.Prelude.{◌≡◌};
 ghost use Rattle.desk_types.specs.declared.refusal.Refusal.TheVariants as refusals;
 ghost use Rattle.desk_saved.specs.Opening.{IsOpeningRefusal};
-ghost use Rattle.desk_epoch_files.specs.Causes.{BlamesFile, unopened_refusal, cause_refusal};
+ghost use Rattle.desk_epoch_files.specs.Causes.{BlamesFile, BlamesMember, unopened_refusal, cause_refusal};
 
 use desk_file::FileEnd;
 use desk_types::Refusal;
@@ -26,6 +26,16 @@ pub(crate) enum Cause {
     NoState(FileEnd),
     /// The epoch before it has not ended, and it has another state than a node's first.
     Used,
+    /// Its table `member` can not be read or made.
+    NoMemberTable,
+    /// Its table `member` has other rows than the one of a node.
+    OtherMember,
+    /// It is the first file of a node with epochs of so many places, other than those that are asked for.
+    OtherPlaces(u64),
+    /// It is the first file of a node with another token than the one that is named.
+    OtherToken,
+    /// It is the first file of a node without a token, though one is named.
+    NoToken,
 }
 
 /// The refusal of a state whose opening ended so.
@@ -48,7 +58,9 @@ pub(crate) fn cause_refusal(cause: &Cause) -> Refusal
     match cause {
         Cause::NoMemory => Refusal::WantOfMemory,
         Cause::Missing | Cause::OtherEpoch | Cause::Used => Refusal::WrongFile,
-        Cause::NoTable => Refusal::StoreFault,
+        Cause::OtherMember | Cause::OtherPlaces(_) => Refusal::WrongFile,
+        Cause::OtherToken | Cause::NoToken => Refusal::WrongFile,
+        Cause::NoTable | Cause::NoMemberTable => Refusal::StoreFault,
         Cause::Unopened(Error::SqliteFailure(ErrorCode::OutOfMemory)) => Refusal::WantOfMemory,
         Cause::Unopened(_) => Refusal::StoreFault,
         Cause::NoState(end) => unopened_refusal(&end.outcome),
@@ -64,5 +76,17 @@ pub(crate) fn table_cause(refusal: &Refusal) -> Cause
         Refusal::WantOfMemory => Cause::NoMemory,
         Refusal::WrongFile => Cause::OtherEpoch,
         _ => Cause::NoTable,
+    }
+}
+
+/// The cause where the table `member` of a first file is refused so.
+pub(crate) fn member_cause(refusal: &Refusal) -> Cause
+    ensures value { IsOpeningRefusal refusal.now → cause_refusal result ≡ refusal.now }
+    ensures other { BlamesMember result → refusal.now ≡ refusals.WrongFile }
+{
+    match refusal {
+        Refusal::WantOfMemory => Cause::NoMemory,
+        Refusal::WrongFile => Cause::OtherMember,
+        _ => Cause::NoMemberTable,
     }
 }

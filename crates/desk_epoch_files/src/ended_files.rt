@@ -1,12 +1,13 @@
 //! The files of a node that has ended.
 
-ghost use Rattle.std.specs.Prelude.{◌≡◌, ◌≤◌, List, ℕ, IsTrue, IsFalse, IsOk, IfErr, OnOk};
+ghost use Rattle.std.specs.Prelude.{◌≡◌, ◌≤◌, List, ℕ, IsTrue, IsFalse, IsOk, Err, IfErr, OnOk};
 ghost use Rattle.std.specs.Io.KnownBytes.{Keeps};
 ghost use Rattle.sqlite.specs.Held.{Held};
 ghost use Rattle.desk_types.specs.declared.refusal.Refusal.TheVariants as refusals;
 ghost use Rattle.desk_output.specs.Telling.{TellsFirst};
 ghost use Rattle.desk_output.specs.declared.telling.TheConstants.{DONE, FAILED};
-ghost use Rattle.desk_epoch_files.specs.Reports.{ended_refusal};
+ghost use Rattle.desk_epoch_files.specs.Additions.{AddsNone};
+ghost use Rattle.desk_epoch_files.specs.Reports.{TellsReplaced, ended_refusal};
 
 use crate::epoch_files::EpochFiles;
 use crate::named_databases::NamedDatabases;
@@ -50,6 +51,7 @@ impl<D: NamedDatabases> EndedFiles<D> {
         ensures files { result.files ≡ record ended.stores { databases = result.files.databases } }
         ensures same { (at : List ℕ) → (c : Held D.Pages) → D.may_open result.files.databases at c
             → D.may_open ended.stores.databases at c }
+        ensures adds { AddsNone (D.may_find ended.stores.databases) (D.may_find result.files.databases) }
     {
         let EndedStores {
             stores: mut files,
@@ -79,6 +81,8 @@ impl<D: NamedDatabases> EndedFiles<D> {
         // What is printed first is the line of what ended it, or of `StoreFault` where its file was not closed.
         ensures printed { IfErr self.now.end.outcome (λ r. TellsFirst (E.contents errors.old) (E.contents errors.new)
             (ended_refusal self.now.files.error self.now.epoch r)) }
+        ensures replaced { self.now.end.outcome ≡ Err refusals.NodeStopped
+            → TellsReplaced (E.contents errors.old) (E.contents errors.new) }
         ensures unclosed { OnOk self.now.end.outcome (IsFalse self.now.is_whole →
             TellsFirst (E.contents errors.old) (E.contents errors.new) refusals.StoreFault) }
         ensures unprinted { result ≡ DONE → Keeps (E.contents errors.old) (E.contents errors.new) }

@@ -1,27 +1,37 @@
 //! The files of a node's epochs, as they are opened one after the other.
 
-ghost use Rattle.std.specs.Prelude.{◌≡◌, ◌<◌, ◌≤◌, ◌+◌, List, ℕ, IsTrue, IsFalse, false, true, nat_le};
-ghost use Rattle.std.specs.Prelude.{IfOk, IfErr, IfSome, IsOk, MatchOption, OnOk, Some, None, string_bytes};
+ghost use Rattle.std.specs.Prelude.{◌≡◌, ◌<◌, ◌≤◌, ◌+◌, ◌⊎◌, List, ℕ, IsTrue, IsFalse, false, true, Some, None};
+ghost use Rattle.std.specs.Prelude.{IfOk, IfErr, IfSome, IsOk, MatchOption, OnOk, Ok, Err, string_bytes};
 ghost use Rattle.std.specs.Io.KnownBytes.{Keeps};
 ghost use Rattle.sqlite.specs.Held.{Held};
 ghost use Rattle.desk_types.specs.declared.limits.TheConstants.{LAST_PLACE};
 ghost use Rattle.desk_types.specs.declared.refusal.Refusal.TheVariants as refusals;
 ghost use Rattle.desk_output.specs.Telling.{TellsFirst};
 ghost use Rattle.desk_output.specs.declared.telling.TheConstants.{DONE, FAILED};
+ghost use Rattle.desk_log.specs.SavedValue.{SavedValue};
 ghost use Rattle.desk_saved.specs.Opening.{IsOpeningRefusal};
-ghost use Rattle.desk_epoch_files.specs.Causes.{BlamesFile, cause_refusal};
-ghost use Rattle.desk_epoch_files.specs.Reports.{ended_refusal, reported_refusal};
+ghost use Rattle.desk_file.specs.Names.{name_in_epoch};
+ghost use Rattle.desk_epoch_files.specs.declared.cause.Cause.TheVariants as causes;
+ghost use Rattle.desk_epoch_files.specs.Additions.{AddsNone, AddsOnly, MayAddNext, MayAddSecond};
+ghost use Rattle.desk_epoch_files.specs.Causes.{BlamesFile, BlamesMember, IsUnfound, cause_refusal};
+ghost use Rattle.desk_epoch_files.specs.Ends.{has_ended_at};
+ghost use Rattle.desk_epoch_files.specs.Members.{MayBeStartedOtherwise, MayStartWith};
+ghost use Rattle.desk_epoch_files.specs.Reports.{TellsMissing, TellsReplaced, ended_refusal, reported_refusal};
 ghost use Rattle.desk_epoch_files.specs.Opening.{MayBeOthers, MayBeReady, MayHold, OpensEpoch};
 
 use crate::cause::{Cause, table_cause};
+use crate::member_table::start_in_file;
 use crate::named_databases::NamedDatabases;
 use crate::next_file::make_file;
 use crate::open_error::OpenError;
+use desk_epoch_node::has_ended as reaches_end;
 use desk_epoch_stores::EpochStores;
 use desk_file::{
     EndedFile, FileEnd, NodeFile, closed_status, is_of_epoch, name_in_epoch, open_node,
 };
-use desk_output::{DONE, refusal_status};
+use desk_log::Saved;
+use desk_output::LinePart::Text;
+use desk_output::{DONE, refusal_status, refusal_status_with};
 use desk_saved::SavedState;
 use desk_types::limits::LAST_PLACE;
 use desk_types::{Owner, Refusal};
@@ -64,6 +74,11 @@ fn open_file<D: NamedDatabases>(
     ensures running { IfOk result (λ store. store.stopped ≡ false) }
     ensures held { IfOk result (λ store. MayHold D.Pages.Store owner.now (D.may_open databases.old) file.now epoch
         store.last) }
+    ensures there { 0 < epoch → IfOk result (λ _. D.may_find databases.old (name_in_epoch file.now epoch) (Ok true)) }
+    ensures missing { 0 < epoch → ¬ (D.may_find databases.old (name_in_epoch file.now epoch) (Ok true))
+        → IfErr result (IsUnfound (D.may_find databases.old (name_in_epoch file.now epoch))) }
+    ensures adds { AddsOnly (D.may_find databases.old) (D.may_find databases.new)
+        (λ at. (epoch ≡ 0) × (at ≡ name_in_epoch file.now epoch)) }
     ensures same { (at : List ℕ) → (c : Held D.Pages) → D.may_open databases.new at c
         → D.may_open databases.old at c }
 {
@@ -86,6 +101,29 @@ fn open_file<D: NamedDatabases>(
             Err(cause)
         }
     }
+}
+
+/// Whether what is committed of a state reaches the end of its epoch, which comes after `most` entries, or after the
+/// first that names a replacement.
+fn has_ended(saved: &Saved, most: u64) -> bool
+    ensures { result ≡ has_ended_at most saved.now }
+{
+    if most == 0 {
+        return true;
+    }
+    // What is committed stands in the log.
+    prove!(saved.commit() <= saved.log().len());
+    reaches_end(saved.log(), saved.commit(), most)
+}
+
+/// Tells the standard error that another node acts in the place of this one, and answers the exit status.
+fn replaced_status<E: Write>(errors: &mut E) -> u8
+    ensures status { result ≡ FAILED }
+    ensures printed { TellsReplaced (E.contents errors.old) (E.contents errors.new) }
+    ensures first { TellsFirst (E.contents errors.old) (E.contents errors.new) refusals.NodeStopped }
+{
+    let more = [Text("desk: another node acts in the place of this one\n")];
+    refusal_status_with(errors, &Refusal::NodeStopped, &more)
 }
 
 /// Tells the standard error how the work over a file ended, for whose name there is no memory, where that was not well,
@@ -189,18 +227,56 @@ impl<D: NamedDatabases> EpochFiles<D> {
         ensures status { result ≡ FAILED }
         ensures printed { TellsFirst (E.contents errors.old) (E.contents errors.new)
             (reported_refusal self.now.error refusal.now) }
+        ensures replaced { reported_refusal self.now.error refusal.now ≡ refusals.NodeStopped
+            → TellsReplaced (E.contents errors.old) (E.contents errors.new) }
+        ensures missing { IfSome self.now.error (λ error. error.cause ≡ causes.Missing → TellsMissing
+            (E.contents errors.old) (E.contents errors.new)
+            (name_in_epoch (string_bytes self.now.file) error.epoch)) }
     {
-        match &self.error {
-            Some(error) => error.status(self.alloc, errors, self.file.as_str(), &self.owner),
-            None => refusal_status(errors, refusal),
+        match (&self.error, refusal) {
+            (Some(error), _) => error.status(self.alloc, errors, self.file.as_str(), &self.owner),
+            (None, Refusal::NodeStopped) => replaced_status(errors),
+            (None, _) => refusal_status(errors, refusal),
+        }
+    }
+
+    /// The token of the node. A later start is given the one that the first file preserves, and a new node the one that
+    /// is named here, where one is, else 0; the file of such a one preserves it, and how many entries end an epoch.
+    /// Err is `WrongFile` where the first file preserves another token than the one that is named, or another number
+    /// of entries. It is `WantOfMemory` where memory is refused, and `StoreFault` where the file can't be opened, read
+    /// or written. `refusal_status` prints which it is.
+    pub fn start_member(&mut self, given: Option<u64>) -> Result<u64, Refusal>
+        ensures given { IfSome given (λ named. IfOk result (λ token. token ≡ named)) }
+        ensures starts { IfOk result (MayStartWith D.Pages.Store given self.old.most (D.may_open self.old.databases)
+            (string_bytes self.old.file)) }
+        // The file is refused for what it preserves only where that is other than what is asked for.
+        ensures other { IfErr result (λ _. IfSome self.new.error (λ error. BlamesMember error.cause
+            → MayBeStartedOtherwise D.Pages.Store given self.old.most (D.may_open self.old.databases)
+            (string_bytes self.old.file))) }
+        ensures fault { IfErr result IsOpeningRefusal }
+        ensures reported { IfErr result (λ r. reported_refusal self.new.error r ≡ r) }
+        ensures started { IsOk result → self.new.error ≡ None }
+        ensures adds { AddsOnly (D.may_find self.old.databases) (D.may_find self.new.databases)
+            (λ at. at ≡ string_bytes self.old.file) }
+        ensures same { (at : List ℕ) → (c : Held D.Pages) → D.may_open self.new.databases at c
+            → D.may_open self.old.databases at c }
+        ensures files { self.new ≡ record self.old { databases = self.new.databases; error = self.new.error } }
+    {
+        drop(self.error.take());
+        let file = self.file.as_str();
+        match start_in_file(self.alloc, &mut self.databases, file, given, self.most) {
+            Ok(token) => Ok(token),
+            Err(cause) => Err(self.fail(OpenError::new(0, cause))),
         }
     }
 
     /// Whether the second file is made though the first epoch has ended: where an operator asks for it and there is no
     /// third file. That is made where the second one is opened, so it shows that the second one was lost.
     fn may_add_second(&mut self, epoch: u64) -> Result<bool, OpenError>
-        ensures asked { IfOk result (λ is. IsTrue is → IsTrue self.old.adds_second × (epoch ≡ 0)) }
+        ensures asked { IfOk result (λ is. IsTrue is → MayAddSecond self.old.adds_second
+            (D.may_find self.old.databases) (string_bytes self.old.file) epoch) }
         ensures unblamed { IfErr result (λ error. ¬ (BlamesFile error.cause)) }
+        ensures adds { AddsNone (D.may_find self.old.databases) (D.may_find self.new.databases) }
         ensures same { (at : List ℕ) → (c : Held D.Pages) → D.may_open self.new.databases at c
             → D.may_open self.old.databases at c }
         ensures files { self.new ≡ record self.old { databases = self.new.databases } }
@@ -223,6 +299,8 @@ impl<D: NamedDatabases> EpochFiles<D> {
             (string_bytes self.old.file) epoch has_ended) }
         ensures other { IfErr result (λ error. BlamesFile error.cause → MayBeOthers D.Pages.Store self.old.owner
             (D.may_open self.old.databases) (string_bytes self.old.file) epoch) }
+        ensures adds { AddsOnly (D.may_find self.old.databases) (D.may_find self.new.databases)
+            (λ at. at ≡ name_in_epoch (string_bytes self.old.file) epoch) }
         ensures same { (at : List ℕ) → (c : Held D.Pages) → D.may_open self.new.databases at c
             → D.may_open self.old.databases at c }
         ensures files { self.new ≡ record self.old { databases = self.new.databases } }
@@ -244,11 +322,14 @@ impl<D: NamedDatabases> EpochFiles<D> {
     /// Makes the file of the next epoch, where it is not there. After an epoch that has ended it is made only where an
     /// operator asks for it: else one that is missing was lost.
     fn prepare_next(&mut self, epoch: u64, store: &SavedState<D::Pages>) -> Result<(), OpenError>
-        ensures made { epoch < LAST_PLACE → nat_le self.old.most store.now.last.commit ≡ false → OnOk result
+        ensures made { epoch < LAST_PLACE → has_ended_at self.old.most store.now.last ≡ false → OnOk result
             (MayBeReady D.Pages.Store self.old.owner (D.may_open self.old.databases) (string_bytes self.old.file)
             (epoch + 1) false) }
         ensures other { IfErr result (λ error. BlamesFile error.cause → MayBeOthers D.Pages.Store self.old.owner
             (D.may_open self.old.databases) (string_bytes self.old.file) (epoch + 1)) }
+        ensures adds { AddsOnly (D.may_find self.old.databases) (D.may_find self.new.databases)
+            (MayAddNext self.old.most self.old.adds_second (D.may_find self.old.databases) (string_bytes self.old.file)
+            epoch store.now.last) }
         ensures same { (at : List ℕ) → (c : Held D.Pages) → D.may_open self.new.databases at c
             → D.may_open self.old.databases at c }
         ensures files { self.new ≡ record self.old { databases = self.new.databases } }
@@ -259,7 +340,8 @@ impl<D: NamedDatabases> EpochFiles<D> {
         if epoch >= LAST_PLACE {
             return Ok(());
         }
-        if saved.commit() < self.most {
+        let is_over = has_ended(&saved, self.most);
+        if !is_over {
             return self.make_ahead(epoch + 1, false);
         }
         if self.may_add_second(epoch)? {
@@ -282,6 +364,7 @@ impl<D: NamedDatabases> EpochFiles<D> {
     /// Closes the file of an epoch: whether all that was saved stands in the file. Else it is to be opened with what
     /// stands beside it.
     pub fn close_epoch(&mut self, epoch: u64, store: SavedState<D::Pages>) -> bool
+        ensures adds { AddsNone (D.may_find self.old.databases) (D.may_find self.new.databases) }
         ensures same { (at : List ℕ) → (c : Held D.Pages) → D.may_open self.new.databases at c
             → D.may_open self.old.databases at c }
         ensures files { self.new ≡ record self.old { databases = self.new.databases } }
@@ -307,6 +390,7 @@ impl<D: NamedDatabases> EpochFiles<D> {
         outcome: Result<(), Refusal>,
     ) -> (FileEnd, bool)
         ensures outcome { result.0.outcome ≡ outcome }
+        ensures adds { AddsNone (D.may_find self.old.databases) (D.may_find self.new.databases) }
         ensures same { (at : List ℕ) → (c : Held D.Pages) → D.may_open self.new.databases at c
             → D.may_open self.old.databases at c }
         ensures files { self.new ≡ record self.old { databases = self.new.databases } }
@@ -354,6 +438,8 @@ impl<D: NamedDatabases> EpochFiles<D> {
         ensures failed { IfErr end.now.outcome (λ _. result ≡ FAILED) }
         ensures printed { IfErr end.now.outcome (λ r. TellsFirst (E.contents errors.old) (E.contents errors.new)
             (ended_refusal self.now.error epoch r)) }
+        ensures replaced { end.now.outcome ≡ Err refusals.NodeStopped
+            → TellsReplaced (E.contents errors.old) (E.contents errors.new) }
         ensures unclosed { OnOk end.now.outcome (IsFalse is_whole →
             TellsFirst (E.contents errors.old) (E.contents errors.new) refusals.StoreFault) }
         ensures unprinted { result ≡ DONE → Keeps (E.contents errors.old) (E.contents errors.new) }
@@ -361,6 +447,9 @@ impl<D: NamedDatabases> EpochFiles<D> {
         let file = self.file.as_str();
         if let Some(error) = self.error_of_end(epoch, &end.outcome) {
             return error.status(self.alloc, errors, file, &self.owner);
+        }
+        if let Err(Refusal::NodeStopped) = &end.outcome {
+            return replaced_status(errors);
         }
         match name_in_epoch(self.alloc, file, epoch) {
             Ok(name) => {
@@ -381,13 +470,26 @@ impl<D: NamedDatabases> EpochFiles<D> {
         ensures held { IfOk result (λ store. MayHold D.Pages.Store self.old.owner (D.may_open self.old.databases)
             (string_bytes self.old.file) epoch store.last) }
         // Where the epoch has not ended, the file of the next one is there, and is whole.
-        ensures next { epoch < LAST_PLACE → IfOk result (λ store. nat_le self.old.most store.last.commit ≡ false
+        ensures next { epoch < LAST_PLACE → IfOk result (λ store. has_ended_at self.old.most store.last ≡ false
             → MayBeReady D.Pages.Store self.old.owner (D.may_open self.old.databases) (string_bytes self.old.file)
             (epoch + 1) false) }
         // That file is refused for what it holds only where it is another's.
         ensures other { IfErr result (λ _. IfSome self.new.error (λ error. error.epoch ≡ epoch + 1
             → BlamesFile error.cause → MayBeOthers D.Pages.Store self.old.owner (D.may_open self.old.databases)
             (string_bytes self.old.file) (epoch + 1))) }
+        // A file after the first is opened only where a look finds it. Else it is the one that is said to be missing.
+        ensures there { 0 < epoch → IfOk result (λ _.
+            D.may_find self.old.databases (name_in_epoch (string_bytes self.old.file) epoch) (Ok true)) }
+        ensures missing { 0 < epoch
+            → ¬ (D.may_find self.old.databases (name_in_epoch (string_bytes self.old.file) epoch) (Ok true))
+            → IfErr result (λ _. MatchOption self.new.error ⊥ (λ error. (error.epoch ≡ epoch) × IsUnfound
+            (D.may_find self.old.databases (name_in_epoch (string_bytes self.old.file) epoch)) error.cause)) }
+        // No file is made but the first, and the next one after a state that the epoch's file may be found with.
+        ensures adds { AddsOnly (D.may_find self.old.databases) (D.may_find self.new.databases) (λ at.
+            ((epoch ≡ 0) × (at ≡ name_in_epoch (string_bytes self.old.file) epoch))
+            ⊎ ((s : SavedValue) × IfOk result (λ store. store.last ≡ s) × MayHold D.Pages.Store self.old.owner
+            (D.may_open self.old.databases) (string_bytes self.old.file) epoch s × MayAddNext self.old.most
+            self.old.adds_second (D.may_find self.old.databases) (string_bytes self.old.file) epoch s at)) }
         ensures fault { IfErr result IsOpeningRefusal }
         ensures reported { IfErr result (λ r. reported_refusal self.new.error r ≡ r) }
         ensures opened { IsOk result → self.new.error ≡ None }

@@ -8,10 +8,11 @@ ghost use Rattle.desk_file.specs.EpochTable.{ShowsEpoch, ShowsOther};
 ghost use Rattle.desk_epoch_files.specs.Causes.{BlamesFile};
 
 use crate::cause::{Cause, table_cause};
+use crate::new_table::make_table;
 use desk_file::marked_epoch;
 use desk_types::Refusal;
 use sqlite::types::ValueRef;
-use sqlite::{Alter, Connection, Error, ErrorCode, Transaction};
+use sqlite::{Alter, Connection};
 
 /// Whether a database is marked as the file of an epoch. One that is marked as another's, or whose table has other
 /// rows, is refused (`OtherEpoch`).
@@ -29,26 +30,6 @@ pub(crate) fn is_marked<S: Alter>(connection: &mut Connection<S>, epoch: u64) ->
     }
 }
 
-/// Makes the table, with the row of an epoch.
-fn write_table<S: Alter>(tx: &mut Transaction<'_, S>, epoch: i64) -> Result<(), Error>
-    ensures same_reference { tx.new.conn.ghost_name ≡ tx.old.conn.ghost_name }
-{
-    tx.execute("CREATE TABLE epoch (number INTEGER PRIMARY KEY)", &[])?;
-    tx.execute("INSERT INTO epoch VALUES (?1)", &[ValueRef::Int(epoch)])?;
-    Ok(())
-}
-
-/// Makes the table of an epoch, in one transaction. It is refused where a transaction is open already.
-fn make_table<S: Alter>(connection: &mut Connection<S>, epoch: i64) -> Result<(), Error> {
-    if !connection.is_autocommit() {
-        return Err(Error::SqliteFailure(ErrorCode::TransactionState));
-    }
-    let mut tx = connection.transaction();
-    write_table(&mut tx, epoch)?;
-    tx.commit()?;
-    Ok(())
-}
-
 /// Marks a database that has no table `epoch` as the file of an epoch, in one transaction, and reads the mark. Any
 /// fault of the database is `StoreFault`, and a refused growth of the desk's own `WantOfMemory`.
 pub(crate) fn mark_epoch<S: Alter>(
@@ -62,7 +43,12 @@ pub(crate) fn mark_epoch<S: Alter>(
     let Ok(number) = i64::try_from(epoch) else {
         return Err(Refusal::StoreFault);
     };
-    let Ok(()) = make_table(connection, number) else {
+    let Ok(()) = make_table(
+        connection,
+        "CREATE TABLE epoch (number INTEGER PRIMARY KEY)",
+        "INSERT INTO epoch VALUES (?1)",
+        &[ValueRef::Int(number)],
+    ) else {
         return Err(Refusal::StoreFault);
     };
     match marked_epoch(connection) {

@@ -18,8 +18,11 @@ pub struct HostDatabases {
 impl NamedDatabases for HostDatabases {
     type Pages = FileStore<File>;
 
-    // What a file holds is not known before it is opened.
+    // What a file holds is not known before it is opened, nor whether it is there before it is looked for. That only a
+    // name that is opened gets a file, and that a look tells which are there, is trusted of the host.
     ghost may_open = { λ _ _ _. Unit {0} };
+
+    ghost may_find = { λ _ _ _. Unit {0} };
 
     fn is_there(&mut self, name: &str) -> Result<bool, Error> {
         match fs::exists(&self.rt, name) {

@@ -5,6 +5,8 @@ ghost use Rattle.sqlite.specs.State.{HasCleanDisk};
 ghost use Rattle.sqlite.specs.Held.{Held, state};
 ghost use Rattle.desk_log.specs.SavedValue.{initial_saved};
 ghost use Rattle.desk_file.specs.EpochTable.{ShowsEpoch};
+ghost use Rattle.desk_file.specs.Names.{name_in_epoch};
+ghost use Rattle.desk_epoch_files.specs.Additions.{AddsOnly};
 ghost use Rattle.desk_epoch_files.specs.Causes.{BlamesFile};
 ghost use Rattle.desk_epoch_files.specs.Opening.{IsOthersFile, MakesNext, MayBeOthers, MayBeReady};
 
@@ -96,6 +98,8 @@ pub(crate) fn make_file<D: NamedDatabases>(
         has_ended) }
     ensures other { IfErr result (λ cause. BlamesFile cause → MayBeOthers D.Pages.Store owner.now
         (D.may_open databases.old) file.now epoch) }
+    ensures adds { AddsOnly (D.may_find databases.old) (D.may_find databases.new)
+        (λ at. at ≡ name_in_epoch file.now epoch) }
     ensures same { (at : List ℕ) → (c : Held D.Pages) → D.may_open databases.new at c
         → D.may_open databases.old at c }
 {

@@ -13,8 +13,9 @@ use desk_options::LogOptions;
 use desk_output::LinePart::Text;
 use desk_output::{flush, outcome_status, refusal_status, refusal_status_with};
 use desk_types::limits::LOG_ENTRIES;
-use desk_types::{Owner, Refusal};
-use sqlite::{Alter, Connection, FileStore};
+use desk_types::{Owner, Refusal, Verb};
+use sqlite::types::ValueRef;
+use sqlite::{Alter, Connection, Error, ErrorCode, FileStore};
 use sqlite_disk::Memory;
 use std::alloc::Global;
 use std::fs;
@@ -55,8 +56,8 @@ struct Progress {
     owner: Option<Owner>,
     /// How many places they have.
     past: u64,
-    /// Whether the epoch has begun for sure: it is the first, or follows a full file. Else its file may be missing, or
-    /// be another's.
+    /// Whether the epoch has begun for sure: it is the first, or follows a full file, or one whose last entry names
+    /// another node. Else its file may be missing, or be another's.
     has_begun: bool,
 }
 
@@ -66,6 +67,44 @@ struct Committed {
     owner: Owner,
     /// How many entries.
     count: u64,
+    /// Whether the last of them names another node, and so has ended its epoch.
+    names_node: bool,
+}
+
+/// Whether the last of so many entries of a node's file names another node.
+fn names_node<S: Alter>(connection: &mut Connection<S>, count: u64) -> Result<bool, Refusal> {
+    let Ok(place) = i64::try_from(count) else {
+        return Ok(false);
+    };
+    let words = "SELECT body FROM entry WHERE place = ?1";
+    let Ok(rows) = connection.query_all(words, &[ValueRef::Int(place)]) else {
+        return Err(Refusal::StoreFault);
+    };
+    let Some(row) = rows.first() else {
+        return Ok(false);
+    };
+    // A body begins with the number of its verb.
+    match row.get::<Vec<u8>>(0) {
+        Ok(body) => Ok(matches!(body.first(), Some(verb) if *verb == Verb::Replace.number())),
+        Err(Error::SqliteFailure(ErrorCode::OutOfMemory)) => Err(Refusal::WantOfMemory),
+        Err(_) => Err(Refusal::StoreFault),
+    }
+}
+
+/// What a node's file has committed, where that is so many entries.
+fn committed_of<S: Alter>(
+    connection: &mut Connection<S>,
+    owner: Owner,
+    count: u64,
+) -> Result<Option<Committed>, Refusal> {
+    match names_node(connection, count) {
+        Ok(names_node) => Ok(Some(Committed {
+            owner,
+            count,
+            names_node,
+        })),
+        Err(refusal) => Err(refusal),
+    }
 }
 
 /// Writes the lines of a copy of a node's file from a place on, and tells its node and how many entries are committed.
@@ -91,18 +130,15 @@ fn archive_copied<S: Alter, W: Write>(
     let Ok(preserved) = owner.copy() else {
         return (connection, Err(Refusal::WantOfMemory));
     };
-    let Archived { connection, result } = archive_database(
-        alloc,
-        writer,
-        connection,
-        preserved,
-        before.past,
-        from,
-    );
-    match result {
-        Ok(count) => (connection, Ok(Some(Committed { owner, count }))),
-        Err(refusal) => (connection, Err(refusal)),
-    }
+    let Archived {
+        mut connection,
+        result,
+    } = archive_database(alloc, writer, connection, preserved, before.past, from);
+    let committed = match result {
+        Ok(count) => committed_of(&mut connection, owner, count),
+        Err(refusal) => Err(refusal),
+    };
+    (connection, committed)
 }
 
 /// The same of a copy in memory, which is dropped.
@@ -125,7 +161,7 @@ fn may_lack(host: &HostRuntime, file: &str, before: &Progress) -> bool {
     if !before.has_begun {
         return true;
     }
-    if before.epoch != 1 {
+    if before.epoch != 1 || before.past < LOG_ENTRIES {
         return false;
     }
     match name_in_epoch(host.alloc(), file, 2) {
@@ -181,7 +217,14 @@ fn archive_files<W: Write>(
             Ok(found) => found,
             Err(status) => return Err(status),
         };
-        let Some(Committed { owner, count }) = found else {
+        let Some(
+            Committed {
+                owner,
+                count,
+                names_node,
+            },
+        ) = found
+        else {
             return Ok(());
         };
         if count == 0 {
@@ -189,17 +232,17 @@ fn archive_files<W: Write>(
         }
         before.owner = Some(owner);
         before.past = before.past.saturating_add(count);
-        before.has_begun = count >= LOG_ENTRIES;
+        before.has_begun = count >= LOG_ENTRIES || names_node;
     }
     Ok(())
 }
 
 /// Prints the document lines of the commands that a node's files have committed, from a place on, in the order of their
 /// places, and answers the exit status. Each file is copied into memory first, with the log beside it, and none is
-/// changed or made. A file may be followed by one that is marked as that of the next epoch, and a full one is, but for
-/// the first. After a fault its number and name stand in the standard error, and the lines before it are printed:
-/// a file that a node has open or that can not be read is `StoreFault`, one that is missing or another node's
-/// `WrongFile`.
+/// changed or made. A file may be followed by one that is marked as that of the next epoch. One whose last entry names
+/// another node is, and so is a full one, but for the first. After a fault its number and name stand in the standard
+/// error, and the lines before it are printed: a file that a node has open or that can not be read is `StoreFault`, one
+/// that is missing or another node's `WrongFile`.
 pub fn log_file(host: &HostRuntime, options: LogOptions) -> u8
     ensures { result ≤ FAILED }
 {

@@ -1,10 +1,10 @@
 -- The ranges of what words ask for.
-use Rattle.std.proofs.Common.{◌≡◌, ◌≤◌, ℕ, List, Option, None, Some, codes, arith}
+use Rattle.std.proofs.Common.{◌≡◌, ◌≤◌, ℕ, List, Option, None, Some, codes, arith, subst, sym}
 use Rattle.clap.specs.Simple.{matches_of}
 use Rattle.clap.specs.Walk.{Row, first_of}
-use Rattle.desk_options.specs.CommandLine.{AreEpochPlaces, AreSeconds, IsFrom, AsksFor, FindsGroup}
+use Rattle.desk_options.specs.CommandLine.{AreEpochPlaces, AreSeconds, IsFrom, IsMember, AsksFor, FindsGroup}
 use Rattle.desk_options.specs.CommandLine.{cluster_app, log_app, page_app, send_app, serve_app}
-use Rattle.desk_options.specs.Host.{AreInRange, AsksHost, FitsEpoch, IsFollowInRange, IsRunInRange}
+use Rattle.desk_options.specs.Host.{AreInRange, AsksHost, FitsEpoch, IsFollowInRange, IsMemberInRange, IsRunInRange}
 use Rattle.desk_types.specs.declared.limits.TheConstants.{LAST_PLACE, LOG_ENTRIES}
 use Rattle.desk_options.specs.declared.command_line.choice.FollowOptions.{FollowOptions}
 use Rattle.desk_options.specs.declared.command_line.choice.Options.{Options}
@@ -26,6 +26,11 @@ epoch_range : (given : Option (List ℕ)) (places : ℕ) → AreEpochPlaces give
 epoch_range None places most = let is : places ≡ LOG_ENTRIES = most in (omega arith, omega arith)
 epoch_range (Some text) places spelled = (spelled.least, spelled.most)
 
+member_range : (given : Option (List ℕ)) (token : Option ℕ) → IsMember given token → IsMemberInRange token
+member_range None token none = subst IsMemberInRange (sym none) tt
+member_range (Some text) None spelled = absurd spelled
+member_range (Some text) (Some token) spelled = (spelled.least, spelled.most)
+
 followed_range : (rows : List Row) (group : Option FollowOptions) → FindsGroup rows group → IsFollowInRange group
 followed_range rows None finds = tt
 followed_range rows (Some group) finds =
@@ -41,6 +46,7 @@ run_in_range words (Serve options) asks = (
   asks.finds_port.spelled.range,
   epoch_range (first_of (codes "epoch-places") (matches_of serve_app words)) options.epoch_places
       asks.finds_epoch_places,
+  member_range (first_of (codes "member") (matches_of serve_app words)) options.member asks.finds_member,
 )
 run_in_range words (Cluster options) asks = (
   asks.finds_nodes.spelled.few,

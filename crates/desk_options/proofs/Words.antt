@@ -32,9 +32,9 @@ use Rattle.desk_options.specs.CommandLine.{SpellsPort, FindsPort, AsksServe, Ask
 use Rattle.desk_options.specs.CommandLine.{SpellsSeconds, AreSeconds, FindsSeconds, FindsGroup, AreFollowOptions}
 use Rattle.desk_options.specs.CommandLine.{IsFollowed, AsksVersion, AsksPage, AsksLog, FindsListen}
 use Rattle.desk_options.specs.CommandLine.{SpellsPlace, IsFrom, FindsFrom}
-use Rattle.desk_options.specs.CommandLine.{SpellsUpTo, AreEpochPlaces, FindsEpochPlaces}
+use Rattle.desk_options.specs.CommandLine.{SpellsUpTo, AreEpochPlaces, FindsEpochPlaces, IsMember, FindsMember}
 use Rattle.desk_options.specs.CommandLine.{most_port}
-use Rattle.desk_types.specs.declared.limits.TheConstants.{LOG_ENTRIES}
+use Rattle.desk_types.specs.declared.limits.TheConstants.{LAST_TOKEN, LOG_ENTRIES}
 use Rattle.desk_options.specs.declared.command_line.send.TheConstants.{USUAL_SECONDS}
 use Rattle.desk_options.specs.declared.command_line.port.TheConstants.{MOST_PORT}
 
@@ -375,6 +375,21 @@ no_epoch_places_in rows text given none places finds = none places (subst (λ t.
 pub most_epoch_places : (rows : List Row) → first_of (codes "epoch-places") rows ≡ None →
     FindsEpochPlaces rows LOG_ENTRIES
 most_epoch_places rows given = subst (λ t. AreEpochPlaces t LOG_ENTRIES) (sym given) refl
+
+-- the token among what was found
+
+pub member_in : (rows : List Row) (text : List ℕ) (token : ℕ) → first_of (codes "member") rows ≡ Some text →
+    SpellsUpTo text LAST_TOKEN token → FindsMember rows (Some token)
+member_in rows text token given spelled = subst (λ t. IsMember t (Some token)) (sym given) spelled
+
+pub no_member_in : (rows : List Row) (text : List ℕ) → first_of (codes "member") rows ≡ Some text →
+    ((token : ℕ) → SpellsUpTo text LAST_TOKEN token → ⊥) → (token : Option ℕ) → FindsMember rows token → ⊥
+no_member_in rows text given none None finds = subst (λ t. IsMember t None) given finds
+no_member_in rows text given none (Some token) finds =
+    none token (subst (λ t. IsMember t (Some token)) given finds)
+
+pub no_token : (rows : List Row) → first_of (codes "member") rows ≡ None → FindsMember rows None
+no_token rows given = subst (λ t. IsMember t None) (sym given) refl
 
 pub some_seconds : (rows : List Row) (text : List ℕ) → first_of (codes "seconds") rows ≡ Some text →
     first_of (codes "seconds") rows ≡ None → ⊥

@@ -12,7 +12,7 @@ use Rattle.clap.specs.declared.builder.value_parser.ValueParser.TheVariants.{Sig
 use Rattle.clap.specs.declared.parser.matches.ArgMatches.{ArgMatches}
 use Rattle.desk_types.specs.Group.{IsGroupSize}
 use Rattle.desk_types.specs.Identifier.{IsDomain}
-use Rattle.desk_types.specs.declared.limits.TheConstants.{LAST_PLACE, LOG_ENTRIES}
+use Rattle.desk_types.specs.declared.limits.TheConstants.{LAST_PLACE, LAST_TOKEN, LOG_ENTRIES}
 use Rattle.desk_types.specs.declared.owner.Owner.{Owner}
 use Rattle.desk_options.specs.declared.command_line.OptionsFault.{OptionsFault}
 use Rattle.desk_options.specs.declared.command_line.OptionsFault.TheVariants.{WantOfMemory, Refused}
@@ -100,9 +100,13 @@ flag_rule name = record (new_rule name) { long = Some name; action = Some SetTru
 abbrev pub epoch_places_rule : Rule
 epoch_places_rule = optional_rule (number_rule (codes "epoch-places") 1 LOG_ENTRIES)
 
--- a command with `--next` and `--epoch-places PLACES`, which may be left out
+-- `--member TOKEN`, which may be left out
+abbrev pub member_rule : Rule
+member_rule = optional_rule (number_rule (codes "member") 1 LAST_TOKEN)
+
+-- a command with `--next`, `--epoch-places PLACES` and `--member TOKEN`, which may be left out
 abbrev pub with_epochs : App → App
-with_epochs app = with_rule (with_rule app (flag_rule (codes "next"))) epoch_places_rule
+with_epochs app = with_rule (with_rule (with_rule app (flag_rule (codes "next"))) epoch_places_rule) member_rule
 
 -- the command `serve --node NODE --nodes NODES --domain DOMAIN --port PORT --file FILE --log`, over epochs and on
 -- several hosts
@@ -281,6 +285,16 @@ AreEpochPlaces (Some text) places = SpellsUpTo text LOG_ENTRIES places
 abbrev pub FindsEpochPlaces : List Row → ℕ → Type 0
 FindsEpochPlaces rows places = AreEpochPlaces (first_of (codes "epoch-places") rows) places
 
+-- there is a token where there is a text, which spells it
+abbrev pub IsMember : Option (List ℕ) → Option ℕ → Type 0
+IsMember None token = token ≡ None
+IsMember (Some text) None = ⊥
+IsMember (Some text) (Some token) = SpellsUpTo text LAST_TOKEN token
+
+-- the token that was found is this, or there is none
+abbrev pub FindsMember : List Row → Option ℕ → Type 0
+FindsMember rows token = IsMember (first_of (codes "member") rows) token
+
 -- a group that was found to be followed is this
 abbrev pub AreFollowOptions : List Row → FollowOptions → Type 0
 AreFollowOptions rows group = FindsNodes rows group.nodes × FindsSeconds rows group.seconds
@@ -322,7 +336,8 @@ pub record AsksAnswer (words : List Text) (options : AnswerOptions) : Type 0 whe
   pub finds_file : FindsFile (matches_of answer_app words) (string_bytes options.file)
 
 -- `serve` is the first word, its command accepts the words, and the owner, the port, the file, the hosts, the keys,
--- whether there is a log and whether a second file is made, and the places of an epoch are those that it finds there.
+-- whether there is a log and whether a second file is made, the places of an epoch and the token are those that it
+-- finds there.
 pub record AsksServe (words : List Text) (options : ServeOptions) : Type 0 where
   pub first : slice_get words 0 ≡ Some (codes "serve")
   pub accepts : Accepts serve_app words
@@ -337,6 +352,7 @@ pub record AsksServe (words : List Text) (options : ServeOptions) : Type 0 where
   pub finds_log : FindsFlag (matches_of serve_app words) (codes "log") options.log
   pub finds_next : FindsFlag (matches_of serve_app words) (codes "next") options.next
   pub finds_epoch_places : FindsEpochPlaces (matches_of serve_app words) options.epoch_places
+  pub finds_member : FindsMember (matches_of serve_app words) options.member
 
 -- `cluster` is the first word, its command accepts the words, and the number of nodes, the domain, the port and the
 -- places of an epoch are those that it finds there.

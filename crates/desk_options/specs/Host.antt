@@ -1,6 +1,7 @@
 -- What the words ask for where the host's files or sockets are needed for it, and the ranges of its numbers.
 use Rattle.std.specs.Prelude.{◌<◌, ◌≤◌, ℕ, List, Option, Some, None, ⊤}
 use Rattle.desk_types.specs.Group.{IsGroupSize}
+use Rattle.desk_types.specs.NumberRange.{FitsToken}
 use Rattle.desk_types.specs.declared.limits.TheConstants.{LAST_PLACE, LOG_ENTRIES}
 use Rattle.desk_options.specs.CommandLine.{AsksAnswer, AsksServe, AsksCluster, AsksSend, AsksStatus, AsksPage}
 use Rattle.desk_options.specs.CommandLine.{AsksLog}
@@ -32,12 +33,17 @@ IsFollowInRange (Some group) = IsGroupSize group.nodes × (1 ≤ group.seconds) 
 abbrev pub FitsEpoch : ℕ → Type 0
 FitsEpoch places = (1 ≤ places) × (places ≤ LOG_ENTRIES)
 
--- the numbers of nodes, of the node, of ports, of places and of seconds are in their ranges
+-- a token, where there is one, is in its range
+abbrev pub IsMemberInRange : Option ℕ → Type 0
+IsMemberInRange None = ⊤
+IsMemberInRange (Some token) = FitsToken token
+
+-- the numbers of nodes, of the node, of ports, of places, of a token and of seconds are in their ranges
 abbrev pub IsRunInRange : HostRun → Type 0
 IsRunInRange (Answer options) = IsGroupSize options.owner.n × (options.owner.id < options.owner.n)
 IsRunInRange (Serve options) =
     IsGroupSize options.owner.n × (options.owner.id < options.owner.n) × IsPort MOST_GROUP_PORT options.port
-    × FitsEpoch options.epoch_places
+    × FitsEpoch options.epoch_places × IsMemberInRange options.member
 IsRunInRange (Cluster options) =
     IsGroupSize options.nodes × IsPort MOST_GROUP_PORT options.port × FitsEpoch options.epoch_places
 IsRunInRange (Send options) = IsPort (most_port options.group) options.port × IsFollowInRange options.group

@@ -372,9 +372,9 @@ fn world_options(alloc: Global, words: &[&str]) -> Result<Options, OptionsFault>
 
 /// What the words after the program's name ask for. They are refused, with a text for the standard error, where they
 /// begin neither with a subcommand nor with `--version` or `-V`, where `clap` refuses the words of that subcommand (a
-/// call for help among them, and a number out of its range: a port, seconds, a place, places of an epoch), where the
-/// value of `--nodes` is neither 3 nor 5, where that of `--node` is not below it, and where that of `--domain` is no
-/// domain. `send` is refused `--seconds` without `--nodes`, and with it a port that is no group's.
+/// call for help among them, and a number out of its range: a port, seconds, a place, places of an epoch, a token),
+/// where the value of `--nodes` is neither 3 nor 5, where that of `--node` is not below it, and where that of
+/// `--domain` is no domain. `send` is refused `--seconds` without `--nodes`, and with it a port that is no group's.
 pub fn options(alloc: Global, words: &[&str]) -> Result<Options, OptionsFault>
     ensures asked { IfOk result (AsksFor (map (λ s. s.now) words.now)) }
     // Words are refused only where they ask for nothing.

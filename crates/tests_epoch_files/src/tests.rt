@@ -4,6 +4,7 @@ mod databases;
 mod ends;
 mod faults;
 mod files;
+mod members;
 mod memory;
 mod starts;
 mod stops;

@@ -96,6 +96,9 @@ pub struct ServeOptions {
     pub next: bool,
     /// How many places an epoch has, in entries, from 1 to 65,536.
     pub epoch_places: u64,
+    /// The token of a node that takes the place of a lost one, from 1 to 1,000,000,000,000. None where the node
+    /// began with the group.
+    pub member: Option<u64>,
 }
 
 /// The options of a group of nodes on the network of one host.

@@ -8,7 +8,7 @@ ghost use Rattle.desk_options.specs.CommandLine.{flag_rule, FindsFlag};
 ghost use Rattle.desk_options.specs.CommandLine.{serve_app, AsksFor, AskForNothing, OnRefused};
 
 use super::answer::{file_argument, file_found, node_argument, owner_found};
-use super::epochs::{epoch_places_found, with_epochs};
+use super::epochs::{epoch_places_found, member_found, with_epochs};
 use super::network::{session_key_found, text_found, with_hosts};
 use super::port::{MOST_GROUP_PORT, port_found, with_network_group};
 use super::{
@@ -72,6 +72,7 @@ pub(crate) fn serve_options(alloc: Global, words: &[&str]) -> Result<Options, Op
     let log = flag_found(&matches, "log");
     let next = flag_found(&matches, "next");
     let epoch_places = epoch_places_found(alloc, &matches)?;
+    let member = member_found(alloc, &matches)?;
     Ok(Options::Serve(ServeOptions {
         owner,
         port,
@@ -82,5 +83,6 @@ pub(crate) fn serve_options(alloc: Global, words: &[&str]) -> Result<Options, Op
         log,
         next,
         epoch_places,
+        member,
     }))
 }

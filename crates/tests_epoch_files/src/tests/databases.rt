@@ -118,6 +118,17 @@ impl MemoryDatabases {
         self.files.len()
     }
 
+    /// Whether the file of this name has the same bytes there.
+    pub fn is_same(&self, other: &MemoryDatabases, name: &str) -> bool {
+        let (Some(at), Some(there)) = (self.find(name), other.find(name)) else {
+            return false;
+        };
+        match (self.files.get(at), other.files.get(there)) {
+            (Some(file), Some(it)) => file.db.as_slice() == it.db.as_slice(),
+            _ => false,
+        }
+    }
+
     /// Where the file of this name stands.
     fn find(&self, name: &str) -> Option<usize> {
         self.files
@@ -180,6 +191,8 @@ impl NamedDatabases for MemoryDatabases {
     type Pages = FileStore<Fuse<Memory>>;
 
     ghost may_open = { λ _ _ _. Unit {0} };
+
+    ghost may_find = { λ _ _ _. Unit {0} };
 
     fn is_there(&mut self, name: &str) -> Result<bool, Error> {
         Ok(self.find(name).is_some())

@@ -2,6 +2,7 @@
 
 ghost use Rattle.std.specs.Prelude.{◌≡◌};
 
+use super::databases::MemoryDatabases;
 use super::files::{MOST, NODE_0, files_of, run_of};
 use desk_epoch_files::EndedFiles;
 use desk_epoch_stores::{EndedStores, EpochStores};
@@ -15,11 +16,14 @@ enum End {
     Well,
     /// Its store fails.
     Fails,
-    /// It has stopped before.
+    /// Another node was named for its number.
     Stopped,
     /// The file after the next one is another's, so the next one is not opened.
     FailsAhead,
 }
+
+/// What is printed of a node in whose place another acts.
+const REPLACED: &str = "desk: 34 NodeStopped\ndesk: another node acts in the place of this one\n";
 
 /// How a node ends, with which exit status, and what is printed then.
 const ROWS: &[(End, u8, &str)] = &[
@@ -32,7 +36,7 @@ const ROWS: &[(End, u8, &str)] = &[
             "foreign key in it names node, entry or client\n"
         ),
     ),
-    (End::Stopped, 1, "desk: 34 NodeStopped\n"),
+    (End::Stopped, 1, REPLACED),
     (
         End::FailsAhead,
         1,
@@ -78,4 +82,21 @@ fn an_end_is_reported_by_the_file_that_ended_it(rt: HostRuntime) {
         };
         assert!(rt; is_reported, "{}", index);
     }
+}
+
+/// What is printed of a start that is refused so, where no file is.
+fn printed(alloc: Global, refusal: &Refusal) -> Option<Sink> {
+    let files = files_of(alloc, MemoryDatabases::new(alloc), NODE_0, false)?;
+    let mut sink = Sink::whole(Vec::new(alloc));
+    let _ = files.refusal_status(&mut sink, refusal);
+    Some(sink)
+}
+
+#[test]
+fn a_start_of_a_replaced_node_is_reported_as_that(rt: HostRuntime) {
+    let is_reported = match printed(rt.alloc(), &Refusal::NodeStopped) {
+        Some(sink) => sink.bytes.as_slice() == REPLACED.as_bytes(),
+        None => false,
+    };
+    assert!(rt; is_reported);
 }

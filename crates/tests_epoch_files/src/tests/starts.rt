@@ -2,7 +2,8 @@
 
 ghost use Rattle.std.specs.Prelude.{◌≡◌};
 
-use super::files::{MOST, NODE_0, files_of, run_of};
+use super::databases::MemoryDatabases;
+use super::files::{MOST, NODE_0, files_of, replaced_run, run_of};
 use desk_epoch_stores::{EpochStores, OpenedEpoch};
 use std::alloc::Global;
 
@@ -35,10 +36,9 @@ const STARTS: &[Row] = &[
     (&[4, 4, 4], (3, 12, 0), 5),
 ];
 
-/// How a node starts after these epochs, and how many files there are then.
-fn started(alloc: Global, counts: &[u64]) -> Option<(Start, usize)> {
-    let databases = run_of(alloc, NODE_0, counts)?;
-    let mut files = files_of(alloc, databases, NODE_0, false)?;
+/// How a node starts with these databases, and how many files there are then.
+fn started(alloc: Global, databases: Option<MemoryDatabases>) -> Option<(Start, usize)> {
+    let mut files = files_of(alloc, databases?, NODE_0, false)?;
     let start = start(alloc, &mut files).ok()?;
     Some((start, files.into_databases().count()))
 }
@@ -46,10 +46,35 @@ fn started(alloc: Global, counts: &[u64]) -> Option<(Start, usize)> {
 #[test]
 fn a_node_goes_on_where_its_files_end(rt: HostRuntime) {
     for row in STARTS {
+        let databases = run_of(rt.alloc(), NODE_0, row.0);
         assert!(rt;
-            started(rt.alloc(), row.0) == Some((row.1, row.2)),
+            started(rt.alloc(), databases) == Some((row.1, row.2)),
             "{}",
             row.0.len()
         );
+    }
+}
+
+/// How many entries each epoch has committed, of which the last names another node; how many stand before the epoch in
+/// which the node starts, and how many files there are then.
+const REPLACED: &[(&[u64], u64, usize)] = &[
+    (&[1], 1, 3),
+    (&[3], 3, 3),
+    (&[4], 4, 3),
+    (&[2, 1], 3, 4),
+    (&[4, 1, 3], 8, 5),
+];
+
+#[test]
+fn an_epoch_ends_where_another_node_is_named(rt: HostRuntime) {
+    for row in REPLACED {
+        let databases = replaced_run(rt.alloc(), NODE_0, row.0);
+        let is_next = match started(rt.alloc(), databases) {
+            Some(((_, base, committed), count)) => {
+                base == row.1 && committed == 0 && count == row.2
+            }
+            None => false,
+        };
+        assert!(rt; is_next, "{}", row.1);
     }
 }

@@ -5,14 +5,29 @@ ghost use Rattle.std.specs.Prelude.{◌≡◌};
 use super::databases::{MemoryDatabases, Stop};
 use super::files::{NODE_0, files_of, run_of};
 use super::starts::{Start, start};
+use desk_epoch_files::EpochFiles;
 use std::alloc::Global;
 
-/// How many entries each epoch has committed, the file that is lost then, how the node starts, and which files stop.
-type Row = (&'static [u64], &'static str, Start, &'static [&'static str]);
+/// How many entries each epoch has committed, the file that is lost then, the token that is named for the node, how it
+/// starts, and which files stop. Without a token its first file preserves none.
+type Row = (
+    &'static [u64],
+    &'static str,
+    Option<u64>,
+    Start,
+    &'static [&'static str],
+);
 
 const ROWS: &[Row] = &[
-    (&[], "", (0, 0, 0), &["desk", "desk.1"]),
-    (&[4, 1], "desk.2", (1, 4, 1), &["desk", "desk.1", "desk.2"]),
+    (&[], "", None, (0, 0, 0), &["desk", "desk.1"]),
+    (&[], "", Some(5), (0, 0, 0), &["desk", "desk.1"]),
+    (
+        &[4, 1],
+        "desk.2",
+        None,
+        (1, 4, 1),
+        &["desk", "desk.1", "desk.2"],
+    ),
 ];
 
 /// The databases before a start.
@@ -24,21 +39,37 @@ fn databases_before(alloc: Global, row: &Row) -> Option<MemoryDatabases> {
     Some(databases)
 }
 
+/// Where a node starts with its files, with a token or not, or the number of the refusal.
+fn start_with(
+    alloc: Global,
+    files: &mut EpochFiles<MemoryDatabases>,
+    token: Option<u64>,
+) -> Result<Start, u8> {
+    if token.is_some() {
+        match files.start_member(token) {
+            Ok(_) => {}
+            Err(refusal) => return Err(refusal.number()),
+        }
+    }
+    start(alloc, files)
+}
+
 /// Where a node starts with copies of databases, or the number of the refusal; and where it starts with the same ones
 /// again, of which nothing fails then.
 fn starts(
     alloc: Global,
     before: &MemoryDatabases,
+    token: Option<u64>,
     stop: Stop,
 ) -> Option<(Result<Start, u8>, Result<Start, u8>)> {
     let mut databases = before.copy()?;
     databases.stop = Some(stop);
     let mut files = files_of(alloc, databases, NODE_0, false)?;
-    let first = start(alloc, &mut files);
+    let first = start_with(alloc, &mut files, token);
     let mut databases = files.into_databases();
     databases.stop = None;
     let mut files = files_of(alloc, databases, NODE_0, false)?;
-    Some((first, start(alloc, &mut files)))
+    Some((first, start_with(alloc, &mut files, token)))
 }
 
 /// Stops a file at each of its calls in turn, until a node starts: how many starts were refused. Each of them is by 41,
@@ -46,7 +77,7 @@ fn starts(
 fn count_stops(
     alloc: Global,
     before: &MemoryDatabases,
-    expected: Start,
+    row: &Row,
     name: &'static str,
     is_log: bool,
 ) -> Option<u64> {
@@ -55,6 +86,7 @@ fn count_stops(
         let (first, second) = starts(
             alloc,
             before,
+            row.2,
             Stop {
                 name,
                 is_log,
@@ -62,8 +94,8 @@ fn count_stops(
             },
         )?;
         match first {
-            _ if second != Ok(expected) => return None,
-            Ok(start) if start == expected => return Some(stops),
+            _ if second != Ok(row.3) => return None,
+            Ok(start) if start == row.3 => return Some(stops),
             Err(41) => stops = stops.saturating_add(1),
             _ => return None,
         }
@@ -76,15 +108,15 @@ fn is_stopped_well(alloc: Global, row: &Row, name: &'static str) -> bool {
     let Some(before) = databases_before(alloc, row) else {
         return false;
     };
-    let of_log = count_stops(alloc, &before, row.2, name, true).unwrap_or(0);
-    let of_database = count_stops(alloc, &before, row.2, name, false).unwrap_or(0);
+    let of_log = count_stops(alloc, &before, row, name, true).unwrap_or(0);
+    let of_database = count_stops(alloc, &before, row, name, false).unwrap_or(0);
     of_log > 0 && of_database > 0
 }
 
 #[test]
 fn a_start_that_a_file_stops_is_made_again(rt: HostRuntime) {
     for row in ROWS {
-        for name in row.3 {
+        for name in row.4 {
             assert!(rt; is_stopped_well(rt.alloc(), row, name), "{}", name);
         }
     }

@@ -56,6 +56,13 @@ returns-in_err-epoch_places-clause-refused c =
     (λ options asks. none options.epoch_places (rw read.1 asks.finds_epoch_places)))
     c.in_err-epoch_places.ensures.refused)
 
+pub returns-in_err-member-clause-refused : goal.returns-in_err-member-clause-refused
+returns-in_err-member-clause-refused c =
+    let p = err_from_is_err_and c.from_residual-in_err-member.result c.from_residual-in_err-member.ensures.1 in
+    let read = c.in_ok-matches.ensures serve_app serve_is_simple c.serve_command.ensures in
+    rw (p.1, p.2) (on_refused _ (λ none. no_serve _ c.requires
+    (λ options asks. none options.member (rw read.1 asks.finds_member))) c.in_err-member.ensures.refused)
+
 pub returns-clause-asked : goal.returns-clause-asked
 returns-clause-asked c =
     let read = c.in_ok-matches.ensures serve_app serve_is_simple c.serve_command.ensures in
@@ -71,4 +78,5 @@ returns-clause-asked c =
       finds_log = rw (← read.1) c.flag_found-log.ensures;
       finds_next = rw (← read.1) c.flag_found-next.ensures;
       finds_epoch_places = rw (← read.1) c.in_ok-epoch_places.ensures.found;
+      finds_member = rw (← read.1) c.in_ok-member.ensures.found;
     }
