@@ -1,6 +1,6 @@
--- Prefixes of what an end of a handshake sends.
+-- Prefixes of what an end of a handshake sends, and of what comes to it.
 use Rattle.std.proofs.Common.{◌≡◌, ℕ, List, ◌++◌, Option, None, Some, ap, sym, ◌∙◌, append_assoc}
-use Rattle.std.specs.Io.KnownBytes.{Appends}
+use Rattle.std.specs.Io.KnownBytes.{Appends, Consumes, prepend_known}
 use Rattle.std.proofs.KnownBytes.{Appends-trans}
 use Rattle.desk_output.specs.Prefixes.{AppendsPrefix}
 
@@ -13,3 +13,10 @@ prefix_after a b c first second p q = (
   ap (λ l. first ++ l) q.2 ∙ sym (append_assoc first q.0 q.1),
   Appends-trans a b c first q.0 p q.3,
 )
+
+-- the first of two texts came, and the second stood after it
+pub front_came : (a b : Option (List ℕ)) (first second : List ℕ) → Consumes a b (first ++ second) →
+    Consumes a (prepend_known second b) first
+front_came None b first second h = tt
+front_came (Some x) None first second h = absurd h
+front_came (Some x) (Some y) first second h = h ∙ append_assoc first second y

@@ -1,6 +1,6 @@
 //! How the nodes of a group are reached.
 
-ghost use Rattle.std.specs.Prelude.{◌≡◌, IfOk, slice_get};
+ghost use Rattle.std.specs.Prelude.{◌≡◌, ℕ, IfOk, slice_get};
 ghost use Rattle.desk_admission.specs.Hosts.{named_hosts, host_of, or_loopback};
 
 use desk_key::Key;
@@ -62,12 +62,16 @@ impl Hosts {
     }
 
     /// The same hosts once more. Err where memory is refused.
-    pub fn copy(&self, alloc: Global) -> Result<Hosts, WantOfMemory> {
-        let text = match &self.text {
-            Some(text) => Some(String::from_str(alloc, text.as_str())?),
-            None => None,
-        };
-        Ok(Hosts { text })
+    pub fn copy(&self, alloc: Global) -> Result<Hosts, WantOfMemory>
+        ensures hosts { IfOk result (λ h. (node : ℕ) → host_of h.text node ≡ host_of self.now.text node) }
+    {
+        match &self.text {
+            Some(text) => {
+                let copy = String::from_str(alloc, text.as_str())?;
+                Ok(Hosts { text: Some(copy) })
+            }
+            None => Ok(Hosts { text: None }),
+        }
     }
 }
 
@@ -105,6 +109,8 @@ impl GroupAddress {
     /// The same once more. Err where memory is refused.
     pub fn copy(&self, alloc: Global) -> Result<GroupAddress, WantOfMemory>
         ensures first { IfOk result (λ a. a.first ≡ self.now.first) }
+        ensures hosts { IfOk result (λ a. (node : ℕ) →
+            host_of a.hosts.text node ≡ host_of self.now.hosts.text node) }
         ensures key { IfOk result (λ a. a.key ≡ self.now.key) }
     {
         Ok(GroupAddress {

@@ -4,7 +4,7 @@ ghost use Rattle.std.specs.Prelude.{◌≡◌, [], IfOk, slice_range, take};
 ghost use Rattle.desk_key.specs.Hmac.{key_block};
 ghost use Rattle.desk_records.specs.Streams.{opened_bytes};
 ghost use Rattle.desk_admission.specs.Handshake.{hello_bytes};
-ghost use Rattle.desk_admission.specs.Streams.{IsAdmitted, IsChallenged, SealsToward};
+ghost use Rattle.desk_admission.specs.Streams.{HasSentChallenge, IsAdmitted, IsChallenged, SealsToward};
 
 use crate::admission::{AdmittedEnd, accept};
 use crate::endpoint::{Endpoint, NONCE_BYTES};
@@ -137,6 +137,9 @@ pub fn admit<I: Read + Drop, O: Write + Drop>(
         (I.remaining input) (opened_bytes s.input.key.block.value s.input.count
         (slice_range s.input.room.items s.input.from s.input.until) (take s.input.held s.input.room.items)
         (I.remaining s.input.inner))) }
+    // It was sent the challenge to its hello before the first record, and nothing else.
+    ensures sent { IfOk result (λ s. HasSentChallenge (key_block port.now.key.bytes) port.now.endpoint nonce.now
+        (I.remaining input) (O.contents output) (O.contents s.output.inner)) }
 {
     let (mut input, mut output) = (input, output);
     let key = port.key.for_tags();
@@ -162,11 +165,13 @@ pub fn dial<I: Read + Drop, O: Write + Drop>(
     from: u8,
     nonce: &[u8; 32],
 ) -> Result<(Opened<I>, Sealed<O>), NotAdmitted>
-    // The port sent the challenge to just this hello; what is read of it then was carried by right records.
+    // The port sent the challenge to just this hello; what is read of it then was carried by right records. It was sent
+    // the hello and the proof before the first record, and nothing else.
     ensures challenged { IfOk result (λ ends. IsChallenged (key_block port.now.key.bytes)
         (hello_bytes port.now.endpoint from nonce.now) (I.remaining input)
         (opened_bytes ends.0.key.block.value ends.0.count (slice_range ends.0.room.items ends.0.from ends.0.until)
-        (take ends.0.held ends.0.room.items) (I.remaining ends.0.inner))) }
+        (take ends.0.held ends.0.room.items) (I.remaining ends.0.inner))
+        (O.contents output) (O.contents ends.1.inner)) }
     // What is written then goes as records, by a key that comes of the same hello.
     ensures sealed { IfOk result (λ ends. SealsToward (key_block port.now.key.bytes)
         (hello_bytes port.now.endpoint from nonce.now) ends.1.key.block.value) }

@@ -1,7 +1,7 @@
 //! Connections that come to a node.
 
-ghost use Rattle.std.specs.Prelude.{◌≡◌, ◌⊎◌, IfSome, Some};
-ghost use Rattle.desk_connections.specs.Admitted.{HasShownKey, HasShownKeyOr};
+ghost use Rattle.std.specs.Prelude.{◌≡◌, ◌⊎◌, IfSome, IsSomeAnd, Some};
+ghost use Rattle.desk_connections.specs.Admitted.{HasPutOwnOnly, HasShownKey, HasShownKeyOr};
 ghost use Rattle.desk_mailbox.specs.Ends.{put_by};
 ghost use Rattle.desk_peers.specs.Incoming.{HasPutOnlyOf};
 
@@ -16,7 +16,7 @@ use desk_eido::want_of_memory_line;
 use desk_events::Why;
 use desk_mailbox::{Item, Sender};
 use desk_output::write_text;
-use desk_peers::take_packets;
+use desk_peers::{EpochPlaces, take_packets};
 use desk_published::{BoardName, BoardReader};
 use desk_sessions::{NoGate, Session, Wire, serve_session};
 use desk_types::Refusal;
@@ -212,6 +212,7 @@ fn tell_no_packet<R: Wait>(rt: &R, door: &WatchedDoor, outcome: &Result<(), Refu
 fn take_admitted<I: Read + Drop, O: Write + Drop, R: Wait>(
     rt: &R,
     alloc: Global,
+    places: EpochPlaces,
     door: &WatchedDoor,
     stream: AdmittedStream<I, O>,
     sender: Sender<Item>,
@@ -220,7 +221,7 @@ fn take_admitted<I: Read + Drop, O: Write + Drop, R: Wait>(
 {
     let from = stream.from_node();
     let (mut input, output) = stream.into_ends();
-    let (sender, outcome) = take_packets(rt, alloc, Some(from), &mut input, sender);
+    let (sender, outcome) = take_packets(rt, door, alloc, places, Some(from), &mut input, sender);
     tell_no_packet(rt, door, &outcome);
     drop(outcome);
     drop(output);
@@ -231,6 +232,7 @@ fn take_admitted<I: Read + Drop, O: Write + Drop, R: Wait>(
 fn take_keyed<I: Read + Drop, O: Write + Drop, L: LimitedReads, R: Wait>(
     rt: &R,
     alloc: Global,
+    places: EpochPlaces,
     door: &WatchedDoor,
     ends: (I, O),
     limits: &L,
@@ -238,8 +240,9 @@ fn take_keyed<I: Read + Drop, O: Write + Drop, L: LimitedReads, R: Wait>(
     nonce: &[u8; NONCE_BYTES],
     sender: Sender<Item>,
 ) -> Sender<Item>
-    // Where no hello for this port and its proof came, nothing is put.
-    ensures { HasShownKey keyed.now nonce.now (I.remaining ends.0) ⊎ (result ≡ sender) }
+    // Where no hello for this port and its proof came, nothing is put; else packets alone that come from who dialled.
+    ensures { HasPutOwnOnly keyed.now nonce.now (I.remaining ends.0) (put_by sender) (put_by result)
+        ⊎ (result ≡ sender) }
 {
     let admitted = match admit(alloc, ends.0, ends.1, keyed, nonce) {
         Ok(admitted) => admitted,
@@ -251,33 +254,35 @@ fn take_keyed<I: Read + Drop, O: Write + Drop, L: LimitedReads, R: Wait>(
     if !limits.limit_reads(KEYED_PEER_SECONDS) {
         return sender;
     }
-    take_admitted(rt, alloc, door, admitted, sender)
+    take_admitted(rt, alloc, places, door, admitted, sender)
 }
 
 /// Takes the packets of who came to a port, once he is admitted where the port has a key, and gives back what takes
 /// those of the next one. The nonce is drawn for the connection; without one nobody is admitted at a port with a key.
-/// It ends at the first bytes that neither a header nor a frame begins with.
+/// It ends at the first bytes that neither a header of these places nor a frame begins with.
 pub fn take_ends<I: Read + Drop, O: Write + Drop, L: LimitedReads, R: Wait>(
     rt: &R,
     alloc: Global,
+    places: EpochPlaces,
     door: &WatchedDoor,
     ends: (I, O),
     limits: &L,
     nonce: Option<[u8; NONCE_BYTES]>,
     sender: Sender<Item>,
 ) -> Sender<Item>
-    // Where the port has a key, and it was not shown, nothing is put.
-    ensures { IfSome door.now.keyed (λ k. HasShownKeyOr (result ≡ sender) k nonce (I.remaining ends.0)) }
+    // Where the port has a key, and it was not shown, nothing is put; else packets alone that come from who showed it.
+    ensures { IfSome door.now.keyed (λ k. IsSomeAnd nonce (λ n.
+        HasPutOwnOnly k n (I.remaining ends.0) (put_by sender) (put_by result)) ⊎ (result ≡ sender)) }
 {
     let Some(keyed) = &door.keyed else {
         let _ = limits.limit_reads(PEER_SECONDS);
         let (mut input, _output) = ends;
-        let (sender, outcome) = take_packets(rt, alloc, None, &mut input, sender);
+        let (sender, outcome) = take_packets(rt, door, alloc, places, None, &mut input, sender);
         tell_no_packet(rt, door, &outcome);
         return sender;
     };
     match nonce {
-        Some(nonce) => take_keyed(rt, alloc, door, ends, limits, keyed, &nonce, sender),
+        Some(nonce) => take_keyed(rt, alloc, places, door, ends, limits, keyed, &nonce, sender),
         None => {
             door.tell_refused(rt, Why::Handshake);
             sender
@@ -289,6 +294,7 @@ pub fn take_ends<I: Read + Drop, O: Write + Drop, L: LimitedReads, R: Wait>(
 pub(crate) fn take_connections<R: Wait + Clock + RandomSource>(
     rt: &R,
     alloc: Global,
+    places: EpochPlaces,
     listener: &TcpListener,
     door: &WatchedDoor,
     sender: Sender<Item>,
@@ -299,7 +305,7 @@ pub(crate) fn take_connections<R: Wait + Clock + RandomSource>(
             Ok(stream) => {
                 let nonce = nonce_for(rt, door, &stream);
                 let ends = (&stream, &stream);
-                sender = take_ends(rt, alloc, door, ends, &stream, nonce, sender);
+                sender = take_ends(rt, alloc, places, door, ends, &stream, nonce, sender);
             }
             Err(_) => thread::sleep(rt, Duration::from_millis(PAUSE_MILLISECONDS)),
         }

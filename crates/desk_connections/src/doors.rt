@@ -4,6 +4,8 @@ ghost use Rattle.std.specs.Prelude.{◌≡◌};
 
 use desk_admission::KeyedPort;
 use desk_events::{Door, Event, EventLog, Why};
+use desk_peers::PacketWatch;
+use desk_types::EpochPacket;
 use std::io::{Read, Result};
 use std::sync::Wait;
 
@@ -36,6 +38,12 @@ impl WatchedDoor {
     /// Tells that who connected was refused.
     pub(crate) fn tell_refused<R: Wait>(&self, rt: &R, why: Why) {
         self.log.tell(rt, Event::Refused { at: self.at, why });
+    }
+}
+
+impl PacketWatch for WatchedDoor {
+    fn see(&self, packet: &EpochPacket) {
+        self.log.hear(packet);
     }
 }
 

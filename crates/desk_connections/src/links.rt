@@ -1,7 +1,7 @@
 //! Connections to the other nodes.
 
 ghost use Rattle.std.specs.Prelude.{◌≡◌, Some, MatchResult, IfOk};
-ghost use Rattle.desk_connections.specs.Links.{IsLinkNews, IsSealedTo};
+ghost use Rattle.desk_connections.specs.Links.{ConnectsTo, IsLinkNews, IsSealedTo, why_of};
 ghost use Rattle.desk_connections.specs.declared.links.LinkState.TheVariants as states;
 
 use crate::limits::{
@@ -11,7 +11,7 @@ use desk_admission::{
     KeyedPort, NODE_CONNECT_MILLISECONDS, NotAdmitted, connect_within, dial, drawn_nonce,
 };
 use desk_events::{Event, EventLog, Why};
-use desk_peers::{Connect, PeerQueue, send_packets};
+use desk_peers::{Connect, EpochPlaces, PeerQueue, send_packets};
 use desk_records::Sealed;
 use std::alloc::Global;
 use std::io;
@@ -127,7 +127,9 @@ impl LinkNews {
 }
 
 /// Why who dials a port, or is dialled, is refused.
-pub(crate) fn why_not_admitted(fault: NotAdmitted) -> Why {
+pub(crate) fn why_not_admitted(fault: NotAdmitted) -> Why
+    ensures { result ≡ why_of fault }
+{
     match fault {
         NotAdmitted::Broken => Why::Handshake,
         NotAdmitted::OtherEndpoint => Why::Endpoint,
@@ -303,52 +305,71 @@ impl<R: Net<Stream = TcpStream> + RandomSource + Clock + Wait + Drop> Connect fo
 }
 
 /// Sends the packets of a queue, as long as there is somebody who puts them.
-fn send_queue<R: Wait, C: Connect + Drop>(rt: &R, alloc: Global, queue: PeerQueue, connector: C) {
-    let (queue, connector) = send_packets(rt, alloc, queue, connector);
+fn send_queue<R: Wait, C: Connect + Drop>(
+    rt: &R,
+    alloc: Global,
+    places: EpochPlaces,
+    queue: PeerQueue,
+    connector: C,
+) {
+    let (queue, connector) = send_packets(rt, alloc, places, queue, connector);
     drop(queue);
     drop(connector);
 }
 
-/// Sends the packets of a queue to a peer, after a handshake where that has a key.
-pub(crate) fn send_to<R: Net<Stream = TcpStream> + RandomSource + Clock + Wait + Drop + Copy>(
-    rt: &R,
+/// What connects to a peer: after a handshake, where it has a key.
+enum PeerConnector<R: Drop> {
+    Open(OpenPeer<R>),
+    Keyed(KeyedPeer<R>),
+}
+
+/// What connects to the peer at an address.
+fn connector_to<R: Drop>(
+    rt: R,
     alloc: Global,
-    queue: PeerQueue,
     address: PeerAddress,
-    log: EventLog,
-) {
-    let news = LinkNews::new(log, queue.node);
+    news: LinkNews,
+) -> PeerConnector<R>
+    ensures { ConnectsTo address result }
+{
     let PeerAddress {
         host,
         port,
         keyed,
         from,
     } = address;
-    let handle = *rt;
     match keyed {
-        None => send_queue(
+        None => PeerConnector::Open(OpenPeer {
+            rt,
+            host,
+            port,
+            news,
+        }),
+        Some(keyed) => PeerConnector::Keyed(KeyedPeer {
             rt,
             alloc,
-            queue,
-            OpenPeer {
-                rt: handle,
-                host,
-                port,
-                news,
-            },
-        ),
-        Some(keyed) => {
-            let peer = KeyedPeer {
-                rt: handle,
-                alloc,
-                host,
-                keyed,
-                from,
-                age: None,
-                failed: None,
-                news,
-            };
-            send_queue(rt, alloc, queue, peer)
-        }
+            host,
+            keyed,
+            from,
+            age: None,
+            failed: None,
+            news,
+        }),
+    }
+}
+
+/// Sends the packets of a queue to a peer, after a handshake where that has a key.
+pub(crate) fn send_to<R: Net<Stream = TcpStream> + RandomSource + Clock + Wait + Drop + Copy>(
+    rt: &R,
+    alloc: Global,
+    places: EpochPlaces,
+    queue: PeerQueue,
+    address: PeerAddress,
+    log: EventLog,
+) {
+    let news = LinkNews::new(log, queue.node);
+    match connector_to(*rt, alloc, address, news) {
+        PeerConnector::Open(peer) => send_queue(rt, alloc, places, queue, peer),
+        PeerConnector::Keyed(peer) => send_queue(rt, alloc, places, queue, peer),
     }
 }

@@ -1,6 +1,8 @@
 //! The threads around a node's keeper. Each goes on by itself: those at a port as long as the process, the others to
 //! the end of the keeper.
 
+ghost use Rattle.std.specs.Prelude.{◌≡◌};
+
 use crate::connections::{serve_sessions, take_connections};
 use crate::doors::WatchedDoor;
 use crate::ends::EndFlag;
@@ -10,7 +12,7 @@ use crate::runtime::NodeRuntime;
 use crate::ticks::tick;
 use desk_events::{Door, EventLog};
 use desk_mailbox::{Item, Sender};
-use desk_peers::PeerQueue;
+use desk_peers::{EpochPlaces, PeerQueue};
 use desk_published::{BoardName, BoardReader};
 use desk_sessions::Wire;
 use desk_types::WantOfMemory;
@@ -43,6 +45,20 @@ fn shared(listener: &TcpListener) -> Result<TcpListener, WantOfMemory> {
     }
 }
 
+/// The door of a node's port for sessions, which announces to the log who is refused there.
+fn sessions_door(ports: &NodePorts, log: EventLog) -> WatchedDoor
+    ensures { result.keyed ≡ ports.now.sessions.keyed }
+{
+    WatchedDoor::new(ports.sessions.copied_key(), log, Door::Sessions)
+}
+
+/// The door of a node's port for peers, which announces to the log who is refused there.
+fn peers_door(ports: &NodePorts, log: EventLog) -> WatchedDoor
+    ensures { result.keyed ≡ ports.now.peers.keyed }
+{
+    WatchedDoor::new(ports.peers.copied_key(), log, Door::Peers)
+}
+
 /// Starts a thread that serves clients at the node's port for sessions, one after the other. Err where the host refuses
 /// the thread, or the port once more: then nothing was accepted, and the wire and the reader are let go.
 pub fn start_session<B: BoardName + Send + Sync + 'static, R: NodeRuntime>(
@@ -60,7 +76,7 @@ pub fn start_session<B: BoardName + Send + Sync + 'static, R: NodeRuntime>(
         drop(log);
         return Err(WantOfMemory);
     };
-    let door = WatchedDoor::new(ports.sessions.copied_key(), log, Door::Sessions);
+    let door = sessions_door(ports, log);
     detach(thread::spawn(
         rt,
         move || serve_sessions(&handle, alloc, &listener, &door, wire, reader),
@@ -73,16 +89,17 @@ pub fn start_session<B: BoardName + Send + Sync + 'static, R: NodeRuntime>(
 pub fn start_peer<R: NodeRuntime>(
     rt: &R,
     alloc: Global,
+    places: EpochPlaces,
     ports: &NodePorts,
     sender: Sender<Item>,
     log: EventLog,
 ) -> Result<(), WantOfMemory> {
     let handle = *rt;
     let listener = shared(&ports.peers.listener)?;
-    let door = WatchedDoor::new(ports.peers.copied_key(), log, Door::Peers);
+    let door = peers_door(ports, log);
     detach(thread::spawn(
         rt,
-        move || take_connections(&handle, alloc, &listener, &door, sender),
+        move || take_connections(&handle, alloc, places, &listener, &door, sender),
     ))
 }
 
@@ -91,12 +108,16 @@ pub fn start_peer<R: NodeRuntime>(
 pub fn start_link<R: NodeRuntime>(
     rt: &R,
     alloc: Global,
+    places: EpochPlaces,
     address: PeerAddress,
     queue: PeerQueue,
     log: EventLog,
 ) -> Result<(), WantOfMemory> {
     let handle = *rt;
-    detach(thread::spawn(rt, move || send_to(&handle, alloc, queue, address, log)))
+    detach(thread::spawn(
+        rt,
+        move || send_to(&handle, alloc, places, queue, address, log),
+    ))
 }
 
 /// Starts a thread that puts a tick every 20 milliseconds, and a stop once the node is to end. Err where the host
