@@ -3,6 +3,8 @@
 use denote.RattleType.{RattleType}
 use denote.Param.Send.{IsSend, sendable}
 use Rattle.std.proofs.Crossing.{crosses}
+use Rattle.std.specs.declared.io.traits.Read as Read
+use Rattle.std.specs.declared.io.traits.Write as Write
 use Rattle.desk_admission.specs.contracts.address.GroupAddress as GroupAddress
 use Rattle.desk_follow.specs.contracts.group_nodes.GroupNodes as GroupNodes
 use Rattle.desk_follow.specs.contracts.node_stream.NodeStream as NodeStream
@@ -11,8 +13,9 @@ use Rattle.desk_follow.specs.contracts.try_log.TryLog as TryLog
 tries_cross : IsSend TryLog.the_field.row
 tries_cross = search (crosses, sendable) depth 20
 
-stream_crosses : IsSend NodeStream.the_field.row
-stream_crosses = search (crosses, sendable) depth 40 fits 5000
+stream_crosses : (T U : RattleType) (r : Read.Ghosts T.Denot) (w : Write.Ghosts U.Denot) → IsSend T → IsSend U →
+    IsSend (NodeStream.the_field T U r w).row
+stream_crosses T U r w t u = search (crosses, sendable) depth 40 fits 5000
 
 address_crosses : IsSend GroupAddress.the_field.row
 address_crosses = search (crosses, sendable) depth 40 fits 5000

@@ -84,6 +84,7 @@ refused nodes number place after_it refusals.BookFull few = by_number nodes numb
 refused nodes number place after_it refusals.NodeStopped few = by_number nodes number place 34 _
 refused nodes number place after_it refusals.Superseded few = by_number nodes number place 35 _
 refused nodes number place after_it refusals.NotStandingBy few = by_number nodes number place 37 _
+refused nodes number place after_it refusals.MemberUnheard few = by_number nodes number place 38 _
 refused nodes number place after_it refusals.WantOfMemory few = by_number nodes number place 40 _
 refused nodes number place after_it refusals.StoreFault few = by_number nodes number place 41 _
 refused nodes number place after_it refusals.FrameFault few = by_number nodes number place 42 _

@@ -2,10 +2,13 @@
 use Rattle.std.specs.Prelude.{◌≡◌, ◌≢◌, ◌⊎◌, ℕ, ◌+◌, ◌<◌, ◌==◌, Bool, true, false, List, [], ◌∷◌, ◌++◌, Option}
 use Rattle.std.specs.Prelude.{Some, None, map}
 use Rattle.std.specs.Prelude.{Result, Ok, Err, String, string_bytes, if◌then◌else◌}
+use Rattle.std.specs.Io.KnownBytes.{Appends, Consumes}
 use Rattle.desk_types.specs.declared.refusal.Refusal.{Refusal}
 use Rattle.desk_types.specs.declared.refusal.Refusal.TheVariants as refusals
+use Rattle.desk_output.specs.Prefixes.{AppendsPrefix}
 use Rattle.desk_lines.specs.declared.buffer.LineBuffer.{LineBuffer}
-use Rattle.desk_send.specs.Exchanges.{Traffic, Exchanged, GivesUp, request}
+use Rattle.desk_send.specs.Exchanges.{request}
+use Rattle.desk_send.specs.Replies.{IsReplyLine}
 use Rattle.desk_follow.specs.declared.course.Course.{Course}
 use Rattle.desk_follow.specs.declared.course.Course.TheVariants as courses
 use Rattle.desk_follow.specs.declared.nodes.NoReply.{NoReply}
@@ -97,11 +100,16 @@ IsWithin count (courses.At node) = node < count
 IsWithin count other = Unit {0}
 
 -- The line went out as a request, and the reply is the next line that came.
-abbrev pub RepliesOver : Option (List ℕ) → Option (List ℕ) → List ℕ → List ℕ → Type 0
-RepliesOver sent left line reply =
-    (new : Traffic) × Exchanged (record { sent = sent; left = left; is_broken = false }) line reply new
+pub record RepliesOver (old new left : Option (List ℕ)) (line reply : List ℕ) : Type 0 where
+  pub rest : Option (List ℕ)
+  pub asked : Appends old new (request line)
+  pub reported : Consumes left rest reply
+  pub whole : IsReplyLine reply
 
 -- A prefix of what is sent for the line went out, and no reply line came.
-abbrev pub BreaksOver : Option (List ℕ) → Option (List ℕ) → List ℕ → Type 0
-BreaksOver sent left line =
-    (new : Traffic) × GivesUp (record { sent = sent; left = left; is_broken = false }) line refusals.ReadFault new
+pub record BreaksOver (old new left : Option (List ℕ)) (line : List ℕ) : Type 0 where
+  pub came : List ℕ
+  pub rest : Option (List ℕ)
+  pub asked : AppendsPrefix old new (request line)
+  pub reported : Consumes left rest came
+  pub none : IsReplyLine came → ⊥

@@ -1,31 +1,63 @@
 //! What the nodes of a group answer that are asked for their boards.
 
-ghost use Rattle.std.specs.Prelude.{◌≡◌, length, Ok, IfOk};
+ghost use Rattle.std.specs.Prelude.{◌≡◌, length, Ok, IfOk, IfSome, IsNone, is_some};
+ghost use Rattle.desk_lines.specs.Holding.{HoldsLine};
 ghost use Rattle.desk_status.specs.declared.answers.NodeAnswer.{NodeAnswer};
 ghost use Rattle.desk_status.specs.declared.answers.NodeAnswer.TheVariants as node_answers;
+ghost use Rattle.desk_follow.specs.Streams.{CarriesPlace, RepliesPlace, AnswersShow, reported_place};
 
 use crate::node_stream::{NodeStream, open_stream};
+use crate::nodes::NoReply;
 use crate::place::shown_place;
+use crate::try_log::TryLog;
 use desk_admission::GroupAddress;
+use desk_lines::LineBuffer;
 use desk_status::NodeAnswer;
 use desk_types::WantOfMemory;
+use desk_types::limits::LINE_BYTES;
 use std::alloc::Global;
+use std::io::{Read, Write};
 use std::net::{Net, TcpStream};
 use std::random::RandomSource;
 use std::rt::Clock;
 use std::time::Instant;
 
 /// The line that asks a node for its board. A show needs a session, and leaves no trace of it.
-const SHOW: &[u8] = b"{\"do\":\"show\",\"session\":1}\n";
+const SHOW: &[u8] = b"{\"do\":\"show\",\"session\":1}";
 
-/// The place of the board that a node shows on a connection. None where it shows no board.
-fn place_on(alloc: Global, stream: NodeStream) -> Result<Option<u64>, WantOfMemory> {
-    let mut reply = Vec::new(alloc);
-    let outcome = stream.send(alloc, SHOW, &mut reply);
-    match outcome {
-        Ok(()) => Ok(shown_place(reply.as_slice())),
-        Err(refusal) if refusal.is_want_of_memory() => Err(WantOfMemory),
-        Err(_) => Ok(None),
+/// A buffer that holds the line which asks a node for its board.
+fn show_line(alloc: Global) -> Result<LineBuffer, WantOfMemory>
+    ensures { IfOk result (λ line. HoldsLine line SHOW.now) }
+{
+    let mut bytes = Vec::with_capacity(alloc, LINE_BYTES)?;
+    bytes.extend_from_slice(SHOW)?;
+    Ok(LineBuffer {
+        bytes,
+        is_long: false,
+    })
+}
+
+/// The place of the board that a node shows on a connection, which is noted as one try. None where it shows no board.
+fn place_on<I: Read + Drop, O: Write + Drop>(
+    alloc: Global,
+    stream: &mut NodeStream<I, O>,
+    tries: &mut TryLog,
+) -> Result<Option<u64>, WantOfMemory>
+    // After a handshake the show was carried out by records, and they carried in the reply that tells the place.
+    ensures keyed { IfOk result (λ shown. IfSome shown
+        (CarriesPlace stream.old.keyed stream.new.keyed SHOW.now)) }
+    // Without one both went over the connection as it is.
+    ensures bare { IsNone stream.old.keyed → IfOk result (λ shown. IfSome shown
+        (RepliesPlace (O.contents stream.old.output) (O.contents stream.new.output) (I.remaining stream.old.input)
+        SHOW.now)) }
+    ensures tried { IfOk result (λ shown. IfSome shown
+        (AnswersShow tries.old tries.new stream.old.node (is_some stream.old.keyed) SHOW.now)) }
+{
+    let line = show_line(alloc)?;
+    match stream.exchange(alloc, &line, tries) {
+        Ok(reply) => Ok(shown_place(reply.as_bytes())),
+        Err(NoReply::WantOfMemory) => Err(WantOfMemory),
+        Err(NoReply::Broken) => Ok(None),
     }
 }
 
@@ -36,14 +68,19 @@ fn ask_node<R: Net<Stream = TcpStream> + Clock + RandomSource>(
     alloc: Global,
     address: &GroupAddress,
     node: u8,
-) -> Result<NodeAnswer, WantOfMemory> {
+    tries: &mut TryLog,
+) -> Result<NodeAnswer, WantOfMemory>
+    // One that is up was asked after a handshake exactly where the group has a key.
+    ensures tried { IfOk result (λ answer. IfSome (reported_place answer)
+        (AnswersShow tries.old tries.new node (is_some address.now.key) SHOW.now)) }
+{
     let Ok(began) = Instant::now(rt) else {
         return Ok(NodeAnswer::Down);
     };
-    let Some(stream) = open_stream(rt, alloc, address, node) else {
+    let Some(mut stream) = open_stream(rt, alloc, address, node) else {
         return Ok(NodeAnswer::Down);
     };
-    let Some(place) = place_on(alloc, stream)? else {
+    let Some(place) = place_on(alloc, &mut stream, tries)? else {
         return Ok(NodeAnswer::Down);
     };
     match began.elapsed(rt) {
@@ -65,9 +102,10 @@ pub fn ask_nodes<R: Net<Stream = TcpStream> + Clock + RandomSource>(
 ) -> Result<Vec<NodeAnswer>, WantOfMemory>
     ensures { IfOk result (λ answers. length answers.items ≡ nodes) }
 {
+    let mut tries = TryLog::new();
     let mut answers = Vec::new(alloc);
     for node in 0..nodes {
-        let answer = ask_node(rt, alloc, address, node)?;
+        let answer = ask_node(rt, alloc, address, node, &mut tries)?;
         answers.push(answer)?;
     }
     Ok(answers)
@@ -80,12 +118,15 @@ fn ask_again<R: Net<Stream = TcpStream> + Clock + RandomSource>(
     address: &GroupAddress,
     node: u8,
     seen: &NodeAnswer,
+    tries: &mut TryLog,
 ) -> Result<NodeAnswer, WantOfMemory>
-    ensures { seen.now ≡ node_answers.Down → result ≡ Ok node_answers.Down }
+    ensures down { seen.now ≡ node_answers.Down → result ≡ Ok node_answers.Down }
+    ensures tried { IfOk result (λ answer. IfSome (reported_place answer)
+        (AnswersShow tries.old tries.new node (is_some address.now.key) SHOW.now)) }
 {
     match seen {
         NodeAnswer::Down => Ok(NodeAnswer::Down),
-        NodeAnswer::Up { .. } => ask_node(rt, alloc, address, node),
+        NodeAnswer::Up { .. } => ask_node(rt, alloc, address, node, tries),
     }
 }
 
@@ -100,10 +141,11 @@ pub fn ask_twice<R: Net<Stream = TcpStream> + Clock + RandomSource>(
     ensures { IfOk result (λ answers. length answers.items ≡ nodes) }
 {
     let seen = ask_nodes(rt, alloc, address, nodes)?;
+    let mut tries = TryLog::new();
     let mut answers = Vec::new(alloc);
     for node in 0..nodes {
         let last = match seen.get(node as usize) {
-            Some(seen) => ask_again(rt, alloc, address, node, seen)?,
+            Some(seen) => ask_again(rt, alloc, address, node, seen, &mut tries)?,
             None => NodeAnswer::Down,
         };
         answers.push(last)?;

@@ -24,7 +24,7 @@ pub struct GroupNodes<R: Net<Stream = TcpStream> + Clock + RandomSource> {
     rt: R,
     alloc: Global,
     address: GroupAddress,
-    streams: Vec<Option<NodeStream>>,
+    streams: Vec<Option<NodeStream<TcpStream, TcpStream>>>,
     /// For how long a line is asked again.
     limit: Duration,
     /// When the line began, where the clock tells it.
@@ -76,7 +76,7 @@ impl<R: Net<Stream = TcpStream> + Clock + RandomSource + Drop> GroupNodes<R> {
 
     /// Takes the connection that is open to a node, if one is.
     #[tactic(auto, using(crate::proofs::OpenStreams::none_set, crate::proofs::OpenStreams::none_past))]
-    fn take_open(&mut self, node: u8) -> Option<NodeStream>
+    fn take_open(&mut self, node: u8) -> Option<NodeStream<TcpStream, TcpStream>>
         ensures tries { self.new.tries ≡ self.old.tries }
         ensures address { self.new.address ≡ self.old.address }
         ensures taken { stream_at self.new.streams.items node ≡ None }
@@ -88,7 +88,7 @@ impl<R: Net<Stream = TcpStream> + Clock + RandomSource + Drop> GroupNodes<R> {
     }
 
     /// The connection to a node: the open one where a line may be sent on it, else a new one.
-    fn take_stream(&mut self, node: u8) -> Option<NodeStream>
+    fn take_stream(&mut self, node: u8) -> Option<NodeStream<TcpStream, TcpStream>>
         ensures tries { self.new.tries ≡ self.old.tries }
         ensures address { self.new.address ≡ self.old.address }
         ensures dialled { IfSome result (λ stream. stream.node ≡ node) }
@@ -103,7 +103,7 @@ impl<R: Net<Stream = TcpStream> + Clock + RandomSource + Drop> GroupNodes<R> {
     }
 
     /// Keeps the connection to a node for the next line.
-    fn keep_stream(&mut self, node: u8, stream: NodeStream)
+    fn keep_stream(&mut self, node: u8, stream: NodeStream<TcpStream, TcpStream>)
         ensures tries { self.new.tries ≡ self.old.tries }
         ensures address { self.new.address ≡ self.old.address }
     {

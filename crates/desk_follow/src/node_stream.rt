@@ -1,13 +1,13 @@
 //! A connection to a node's sessions.
 
-ghost use Rattle.std.specs.Prelude.{◌≡◌, ◌+◌, ◌<◌, ◌^◌, ℕ, List, IfOk, IfErr, IfSome, None, true, false, is_some};
-ghost use Rattle.std.specs.Prelude.{string_bytes};
+ghost use Rattle.std.specs.Prelude.{◌≡◌, ◌+◌, ◌<◌, ◌^◌, ℕ, List, IfOk, IfErr, IfSome, IsSome, IsNone, OnOk, None};
+ghost use Rattle.std.specs.Prelude.{true, false, is_some, string_bytes};
 ghost use Rattle.desk_admission.specs.Hosts.{host_of};
 ghost use Rattle.desk_lines.specs.Holding.{HoldsLine};
 ghost use Rattle.desk_types.specs.declared.limits.TheConstants.{SESSION_PORTS};
 ghost use Rattle.desk_send.specs.Replies.{IsReplyLine};
 ghost use Rattle.desk_follow.specs.declared.nodes.NoReply.TheVariants as faults;
-ghost use Rattle.desk_follow.specs.Streams.{IsSealedUnder};
+ghost use Rattle.desk_follow.specs.Streams.{IsSealedUnder, IsSealedFor, CarriesReply};
 ghost use Rattle.desk_follow.specs.Tries.{RepliesOver, BreaksOver, GrowsByTry, came_of};
 
 use crate::nodes::NoReply;
@@ -17,13 +17,14 @@ use desk_admission::{
     drawn_nonce,
 };
 use desk_key::Key;
-use desk_lines::{Handler, LineBuffer, ReplyText};
+use desk_lines::LineBuffer;
 use desk_records::{Opened, Sealed};
-use desk_send::{NodeConnection, send_lines};
-use desk_types::{Refusal, session_port};
+use desk_send::{NodeFault, exchange_line};
+use desk_types::session_port;
 use std::alloc::Global;
 use std::io;
 use std::io::{BufRead, BufReader, ErrorKind, Read, Write};
+use std::marker::Model;
 use std::net::{Net, TcpStream};
 use std::random::RandomSource;
 use std::time::Duration;
@@ -31,21 +32,38 @@ use std::time::Duration;
 /// For how long a node may be silent that a line was sent to, in seconds.
 const SILENT_SECONDS: u64 = 3;
 
-/// A connection to a node.
+/// A connection to a node: both directions as they are.
 #[derive(Drop)]
-pub(crate) struct NodeStream {
+pub(crate) struct NodeStream<I: Read, O: Write> {
     /// The node that was dialled.
     node: u8,
-    stream: TcpStream,
-    /// Both directions after a handshake, where the node's port has a key.
-    keyed: Option<KeyedStream>,
+    input: I,
+    output: O,
+    /// Both directions after a handshake, where the node's port has a key: lines go by these alone then.
+    keyed: Option<KeyedStream<I, O>>,
 }
 
-/// Both directions of a connection after a handshake.
+/// Both directions of a connection after a handshake. A contract sees what records carry, where it is known.
 #[derive(Drop)]
-pub(crate) struct KeyedStream {
-    input: Opened<TcpStream>,
-    output: Sealed<TcpStream>,
+pub(crate) struct KeyedStream<I: Read, O: Write> {
+    input: Opened<I>,
+    output: Sealed<O>,
+}
+
+impl<I: Read, O: Write> Model for KeyedStream<I, O> {
+    ghost use Rattle.std.specs.Prelude.{slice_range, take};
+    ghost use Rattle.desk_records.specs.Streams.{opened_bytes, sealed_bytes};
+    ghost use Rattle.desk_follow.specs.Streams.{RecordTraffic};
+
+    ghost Value = { RecordTraffic };
+
+    ghost view = { λ k. record {
+      sealing = k.output.key.block.value;
+      sent = sealed_bytes k.output.key.block.value (O.contents k.output.first.value) (O.contents k.output.inner);
+      left = opened_bytes k.input.key.block.value k.input.count
+          (slice_range k.input.room.items k.input.from k.input.until) (take k.input.held k.input.room.items)
+          (I.remaining k.input.inner);
+    } };
 }
 
 /// Where the sessions of a node are reached.
@@ -87,9 +105,9 @@ fn proved<R: RandomSource>(
     stream: &TcpStream,
     key: &Key,
     port: u16,
-) -> Option<KeyedStream>
+) -> Option<KeyedStream<TcpStream, TcpStream>>
     // What is written goes as records by a key that comes of a handshake under just this one.
-    ensures sealed { IfSome result (λ keyed. IsSealedUnder key.now port keyed.output.key.block.value) }
+    ensures sealed { IfSome result (λ keyed. IsSealedUnder key.now port keyed.sealing) }
 {
     let input = stream.try_clone().ok()?;
     let output = stream.try_clone().ok()?;
@@ -110,12 +128,11 @@ fn dialled<R: Net<Stream = TcpStream> + RandomSource>(
     alloc: Global,
     address: &NodeAddress<'_>,
     key: &Option<Key>,
-) -> Option<NodeStream>
+) -> Option<NodeStream<TcpStream, TcpStream>>
     ensures node { IfSome result (λ stream. stream.node ≡ address.now.node) }
     // Where there is a key, nothing goes on without the handshake.
     ensures keyed { IfSome result (λ stream. is_some stream.keyed ≡ is_some key.now) }
-    ensures sealed { IfSome result (λ stream. IfSome stream.keyed (λ keyed. IfSome key.now (λ key.
-        IsSealedUnder key address.now.port keyed.output.key.block.value))) }
+    ensures sealed { IfSome result (λ stream. IsSealedFor key.now address.now.port stream.keyed) }
 {
     let stream = connected(rt, address.host, address.port).ok()?;
     let keyed = match key {
@@ -124,7 +141,8 @@ fn dialled<R: Net<Stream = TcpStream> + RandomSource>(
     };
     Some(NodeStream {
         node: address.node,
-        stream,
+        input: stream.try_clone().ok()?,
+        output: stream,
         keyed,
     })
 }
@@ -135,9 +153,12 @@ pub(crate) fn open_stream<R: Net<Stream = TcpStream> + RandomSource>(
     alloc: Global,
     address: &GroupAddress,
     node: u8,
-) -> Option<NodeStream>
+) -> Option<NodeStream<TcpStream, TcpStream>>
     ensures node { IfSome result (λ stream. stream.node ≡ node) }
     ensures keyed { IfSome result (λ stream. is_some stream.keyed ≡ is_some address.now.key) }
+    // The handshake is with the node's port, under the key of the address.
+    ensures sealed { address.now.first + node + SESSION_PORTS < 2 ^ 16 → IfSome result (λ stream.
+        IsSealedFor address.now.key (address.now.first + node + SESSION_PORTS) stream.keyed) }
 {
     dialled(rt, alloc, &node_address(address, node), &address.key)
 }
@@ -157,41 +178,39 @@ fn is_quiet(stream: &TcpStream) -> bool {
     }
 }
 
-/// The reply that a node gives to a line, over what reads the node's bytes and what writes to it.
-fn reply_over<B: BufRead + Drop, W: Write + Drop>(
+/// The reply that a node gives to a line, over what reads the node's bytes and what takes those for it.
+fn reply_over<B: BufRead + Drop, W: Write>(
     alloc: Global,
     reader: B,
-    writer: W,
+    writer: &mut W,
     line: &LineBuffer,
 ) -> Result<String, NoReply>
     // This line alone was sent, once, and the reply is the next line that came.
     ensures ok { IfOk result (λ reply. (text : List ℕ) → HoldsLine line.now text →
-        RepliesOver (W.contents writer) (B.remaining reader) text (string_bytes reply)) }
+        RepliesOver (W.contents writer.old) (W.contents writer.new) (B.remaining reader) text (string_bytes reply)) }
     // Where the node is reported to have given none, none came.
     ensures broken { IfErr result (λ fault. (text : List ℕ) → HoldsLine line.now text → fault ≡ faults.Broken →
-        BreaksOver (W.contents writer) (B.remaining reader) text) }
+        BreaksOver (W.contents writer.old) (W.contents writer.new) (B.remaining reader) text) }
 {
-    let (connection, reply) = NodeConnection::new(alloc, reader, writer).answer(line);
-    drop(connection);
-    match reply {
-        Ok(ReplyText::Line(reply)) => Ok(reply),
-        Ok(ReplyText::WantOfMemory) => Err(NoReply::WantOfMemory),
-        Err(refusal) if refusal.is_want_of_memory() => Err(NoReply::WantOfMemory),
-        Err(_) => Err(NoReply::Broken),
+    let mut reader = reader;
+    match exchange_line(alloc, &mut reader, writer, line) {
+        Ok(reply) => Ok(reply),
+        Err(NodeFault::WantOfMemory) => Err(NoReply::WantOfMemory),
+        Err(NodeFault::Broken) => Err(NoReply::Broken),
     }
 }
 
-/// The same, over what gives the node's bytes and what takes those for it.
-fn reply_on<I: Read + Drop, O: Write + Drop>(
+/// The same, over what gives the node's bytes.
+fn reply_on<I: Read + Drop, O: Write>(
     alloc: Global,
     input: I,
-    output: O,
+    output: &mut O,
     line: &LineBuffer,
 ) -> Result<String, NoReply>
     ensures ok { IfOk result (λ reply. (text : List ℕ) → HoldsLine line.now text →
-        RepliesOver (O.contents output) (I.remaining input) text (string_bytes reply)) }
+        RepliesOver (O.contents output.old) (O.contents output.new) (I.remaining input) text (string_bytes reply)) }
     ensures broken { IfErr result (λ fault. (text : List ℕ) → HoldsLine line.now text → fault ≡ faults.Broken →
-        BreaksOver (O.contents output) (I.remaining input) text) }
+        BreaksOver (O.contents output.old) (O.contents output.new) (I.remaining input) text) }
 {
     match BufReader::new(alloc, input) {
         Ok(reader) => reply_over(alloc, reader, output, line),
@@ -200,19 +219,19 @@ fn reply_on<I: Read + Drop, O: Write + Drop>(
 }
 
 /// The same of the node with this number, which is noted as one try.
-fn noted_reply<I: Read + Drop, O: Write + Drop>(
+fn noted_reply<I: Read + Drop, O: Write>(
     alloc: Global,
     input: I,
-    output: O,
+    output: &mut O,
     node: u8,
     is_keyed: bool,
     line: &LineBuffer,
     tries: &mut TryLog,
 ) -> Result<String, NoReply>
     ensures ok { IfOk result (λ reply. (text : List ℕ) → HoldsLine line.now text →
-        RepliesOver (O.contents output) (I.remaining input) text (string_bytes reply)) }
+        RepliesOver (O.contents output.old) (O.contents output.new) (I.remaining input) text (string_bytes reply)) }
     ensures broken { IfErr result (λ fault. (text : List ℕ) → HoldsLine line.now text → fault ≡ faults.Broken →
-        BreaksOver (O.contents output) (I.remaining input) text) }
+        BreaksOver (O.contents output.old) (O.contents output.new) (I.remaining input) text) }
     ensures tried { (text : List ℕ) → HoldsLine line.now text →
         GrowsByTry tries.old tries.new node is_keyed text (came_of result) }
 {
@@ -220,43 +239,8 @@ fn noted_reply<I: Read + Drop, O: Write + Drop>(
     tries.note(node, is_keyed, line, reply)
 }
 
-/// The same of a connection without a handshake.
-fn bare_reply(
-    alloc: Global,
-    stream: &TcpStream,
-    node: u8,
-    line: &LineBuffer,
-    tries: &mut TryLog,
-) -> Result<String, NoReply>
-    ensures whole { IfOk result (λ reply. (text : List ℕ) → HoldsLine line.now text →
-        IsReplyLine (string_bytes reply)) }
-    ensures tried { (text : List ℕ) → HoldsLine line.now text →
-        GrowsByTry tries.old tries.new node false text (came_of result) }
-{
-    noted_reply(alloc, stream, stream, node, false, line, tries)
-}
-
-/// Sends a line, and writes the reply to it.
-fn send_on<I: Read + Drop, O: Write + Drop>(
-    alloc: Global,
-    input: I,
-    output: O,
-    line: &[u8],
-    reply: &mut Vec<u8>,
-) -> Result<(), Refusal> {
-    let Ok(reader) = BufReader::new(alloc, input) else {
-        return Err(Refusal::WantOfMemory);
-    };
-    let mut line = line;
-    let connection = NodeConnection::new(alloc, reader, output);
-    let (connection, outcome) = send_lines(alloc, &mut line, reply, connection);
-    drop(connection);
-    outcome
-}
-
-impl KeyedStream {
-    /// The reply of the node to a line, which is noted as one try after a handshake: there is nothing else here that it
-    /// could go over.
+impl<I: Read + Drop, O: Write + Drop> KeyedStream<I, O> {
+    /// The reply of the node to a line, which is noted as one try after a handshake.
     fn reply(
         &mut self,
         alloc: Global,
@@ -266,6 +250,9 @@ impl KeyedStream {
     ) -> Result<String, NoReply>
         ensures whole { IfOk result (λ reply. (text : List ℕ) → HoldsLine line.now text →
             IsReplyLine (string_bytes reply)) }
+        // The line was carried out by records, and the reply is what they carried in next.
+        ensures ok { IfOk result (λ reply. (text : List ℕ) → HoldsLine line.now text →
+            RepliesOver self.old.sent self.new.sent self.old.left text (string_bytes reply)) }
         ensures tried { (text : List ℕ) → HoldsLine line.now text →
             GrowsByTry tries.old tries.new node true text (came_of result) }
     {
@@ -281,18 +268,21 @@ impl KeyedStream {
     }
 }
 
-impl NodeStream {
+impl NodeStream<TcpStream, TcpStream> {
     /// Whether a line may be sent to this node on the connection: it leads there, with a handshake exactly where its
     /// port has a key, and has not ended since the last reply. So no line is lost on one whose node was started again.
     pub(crate) fn leads_to(&self, node: u8, key: &Option<Key>) -> bool
         ensures node { result ≡ true → self.now.node ≡ node }
         ensures keyed { result ≡ true → is_some self.now.keyed ≡ is_some key.now }
     {
-        self.node == node && self.keyed.is_some() == key.is_some() && is_quiet(&self.stream)
+        self.node == node && self.keyed.is_some() == key.is_some() && is_quiet(&self.input)
     }
+}
 
-    /// The reply that the node gives to a line, which is noted as one try.
-    fn exchange(
+impl<I: Read + Drop, O: Write + Drop> NodeStream<I, O> {
+    /// The reply that the node gives to a line, which is noted as one try. Without one a late reply on the connection
+    /// would pass for that to the next line.
+    pub(crate) fn exchange(
         &mut self,
         alloc: Global,
         line: &LineBuffer,
@@ -300,11 +290,28 @@ impl NodeStream {
     ) -> Result<String, NoReply>
         ensures whole { IfOk result (λ reply. (text : List ℕ) → HoldsLine line.now text →
             IsReplyLine (string_bytes reply)) }
+        // After a handshake the line was carried out by records, and the reply is what they carried in next.
+        ensures keyed { IfOk result (λ reply. (text : List ℕ) → HoldsLine line.now text →
+            CarriesReply self.old.keyed self.new.keyed text (string_bytes reply)) }
+        // Nothing went out beside them.
+        ensures alone { IsSome self.old.keyed → O.contents self.new.output ≡ O.contents self.old.output }
+        // Without one both went over the connection as it is.
+        ensures bare { IsNone self.old.keyed → IfOk result (λ reply. (text : List ℕ) → HoldsLine line.now text →
+            RepliesOver (O.contents self.old.output) (O.contents self.new.output) (I.remaining self.old.input) text
+            (string_bytes reply)) }
         ensures tried { (text : List ℕ) → HoldsLine line.now text →
             GrowsByTry tries.old tries.new self.old.node (is_some self.old.keyed) text (came_of result) }
     {
         match &mut self.keyed {
-            None => bare_reply(alloc, &self.stream, self.node, line, tries),
+            None => noted_reply(
+                alloc,
+                &mut self.input,
+                &mut self.output,
+                self.node,
+                false,
+                line,
+                tries,
+            ),
             Some(keyed) => keyed.reply(alloc, self.node, line, tries),
         }
     }
@@ -316,9 +323,15 @@ impl NodeStream {
         alloc: Global,
         line: &LineBuffer,
         tries: &mut TryLog,
-    ) -> (Option<NodeStream>, Result<String, NoReply>)
+    ) -> (Option<NodeStream<I, O>>, Result<String, NoReply>)
         ensures whole { IfOk result.1 (λ reply. (text : List ℕ) → HoldsLine line.now text →
             IsReplyLine (string_bytes reply)) }
+        ensures keyed { IfOk result.1 (λ reply. IfSome result.0 (λ stream. (text : List ℕ) →
+            HoldsLine line.now text → CarriesReply self.keyed stream.keyed text (string_bytes reply))) }
+        ensures bare { IsNone self.keyed → IfOk result.1 (λ reply. IfSome result.0 (λ stream. (text : List ℕ) →
+            HoldsLine line.now text → RepliesOver (O.contents self.output) (O.contents stream.output)
+            (I.remaining self.input) text (string_bytes reply))) }
+        ensures back { OnOk result.1 (IsSome result.0) }
         ensures tried { (text : List ℕ) → HoldsLine line.now text →
             GrowsByTry tries.old tries.new self.node (is_some self.keyed) text (came_of result.1) }
         ensures closed { IfErr result.1 (λ _. result.0 ≡ None) }
@@ -327,24 +340,6 @@ impl NodeStream {
         match stream.exchange(alloc, line, tries) {
             Ok(reply) => (Some(stream), Ok(reply)),
             Err(fault) => (None, Err(fault)),
-        }
-    }
-
-    /// Sends a line, and writes the reply to it. The connection is closed then.
-    pub(crate) fn send(
-        self,
-        alloc: Global,
-        line: &[u8],
-        reply: &mut Vec<u8>,
-    ) -> Result<(), Refusal> {
-        let NodeStream {
-            node: _,
-            stream,
-            keyed,
-        } = self;
-        match keyed {
-            None => send_on(alloc, &stream, &stream, line, reply),
-            Some(KeyedStream { input, output }) => send_on(alloc, input, output, line, reply),
         }
     }
 }

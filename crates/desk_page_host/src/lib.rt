@@ -6,4 +6,4 @@ mod reader;
 mod server;
 mod watcher;
 
-pub use server::serve_page;
+pub use server::{PageRun, serve_page};

@@ -1,6 +1,7 @@
 //! The page's server.
 
-ghost use Rattle.std.specs.Prelude.{◌≤◌};
+ghost use Rattle.std.specs.Prelude.{◌≡◌, ◌≤◌, ℕ, IfOk, is_some};
+ghost use Rattle.desk_admission.specs.Hosts.{host_of};
 ghost use Rattle.desk_output.specs.declared.telling.TheConstants.{FAILED};
 ghost use Rattle.desk_types.specs.Group.{IsGroupSize};
 
@@ -55,6 +56,15 @@ fn detach<T: Drop, F: Drop>(
     }
 }
 
+/// A run of `desk page`: what the words ask for, and the key by which nodes are asked.
+#[derive(Drop)]
+pub struct PageRun {
+    pub options: PageOptions,
+    /// The key of the file that the words name, where they name one.
+    pub key: Option<Key>,
+    ghost given: { is_some key ≡ is_some options.key },
+}
+
 /// The group whose page is served.
 #[derive(Drop)]
 struct PageGroup {
@@ -65,13 +75,45 @@ struct PageGroup {
     ghost few: { IsGroupSize nodes },
 }
 
+/// The group whose page a run serves.
+fn page_group(run: PageRun) -> PageGroup
+    ensures first { result.address.first ≡ run.options.port }
+    ensures hosts { result.address.hosts.text ≡ run.options.hosts }
+    // Its nodes are asked by a key exactly where one is named.
+    ensures key { is_some result.address.key ≡ is_some run.options.key }
+    ensures nodes { result.nodes ≡ run.options.nodes }
+{
+    let PageRun { options, key } = run;
+    let PageOptions {
+        nodes,
+        port,
+        seconds,
+        hosts,
+        ..
+    } = options;
+    PageGroup {
+        address: GroupAddress {
+            first: port,
+            hosts: Hosts::new(hosts),
+            key,
+        },
+        nodes,
+        seconds,
+    }
+}
+
 /// Who asks the nodes of a group, each line for so many seconds.
 fn follower<R: NodeRuntime>(
     rt: &R,
     alloc: Global,
     group: &PageGroup,
     seconds: u16,
-) -> Result<Follower<GroupNodes<R>>, WantOfMemory> {
+) -> Result<Follower<GroupNodes<R>>, WantOfMemory>
+    ensures first { IfOk result (λ f. f.nodes.address.first ≡ group.now.address.first) }
+    ensures hosts { IfOk result (λ f. (node : ℕ) →
+        host_of f.nodes.address.hosts.text node ≡ host_of group.now.address.hosts.text node) }
+    ensures key { IfOk result (λ f. f.nodes.address.key ≡ group.now.address.key) }
+{
     let asked = GroupNodes::new(*rt, alloc, group.address.copy(alloc)?, group.nodes, seconds)?;
     Ok(Follower::new(asked, group.nodes))
 }
@@ -217,17 +259,10 @@ pub fn serve_page<
         + Send
         + Sync
         + 'static,
->(host: &HostRuntime, rt: &R, options: PageOptions, key: Option<Key>) -> u8
+>(host: &HostRuntime, rt: &R, run: PageRun) -> u8
     ensures status { result ≤ FAILED }
 {
-    let PageOptions {
-        nodes,
-        port,
-        listen,
-        seconds,
-        hosts,
-        ..
-    } = options;
+    let listen = run.options.listen;
     let listener = match TcpListener::bind(rt, (LOOPBACK, listen)) {
         Ok(listener) => listener,
         Err(error) => return refused_port_status(host, listen, &error),
@@ -235,16 +270,7 @@ pub fn serve_page<
     let Ok(keys) = RandomState::new(host) else {
         return refusal_status(&mut host.stderr(), &Refusal::ReadFault);
     };
-    let group = PageGroup {
-        address: GroupAddress {
-            first: port,
-            hosts: Hosts::new(hosts),
-            key,
-        },
-        nodes,
-        seconds,
-    };
-    if start(rt, host.alloc(), keys, &group, &listener).is_err() {
+    if start(rt, host.alloc(), keys, &page_group(run), &listener).is_err() {
         return refusal_status(&mut host.stderr(), &Refusal::WantOfMemory);
     }
     outcome_status(&mut host.stderr(), &wait_for_end(host))

@@ -1,6 +1,7 @@
 -- What a connection does at a line.
-use Rattle.std.proofs.Common.{◌≡◌, ℕ, Bool, true, List, [], Option, inl, inr, refl, subst}
-use Rattle.std.proofs.KnownBytes.{Appends-nil, Consumes-nil}
+use Rattle.std.proofs.Common.{◌≡◌, ℕ, Bool, true, List, [], Option, inl, inr, refl}
+use Rattle.std.specs.Prelude.{Result, Ok, Err, OnErr}
+use Rattle.std.proofs.KnownBytes.{Consumes-nil}
 use Rattle.desk_types.specs.declared.refusal.Refusal.TheVariants as refusals
 use Rattle.desk_output.specs.Prefixes.{AppendsPrefix}
 use Rattle.desk_send.specs.declared.fault.NodeFault.{NodeFault}
@@ -13,27 +14,19 @@ use Rattle.desk_send.proofs.ReplyLines.{no_reply_part}
 pub read_nothing : (fault : NodeFault) (left : Option (List ℕ)) → ReadsNone fault left left
 read_nothing fault left = ([], Consumes-nil left, λ _. no_reply_part [] tt)
 
--- it failed before anything was sent
-pub fails_first : (old : Traffic) (line : List ℕ) (fault : NodeFault) → FailsExchange old line fault old
-fails_first old line fault = record {
-  asked = ([], request line, refl, Appends-nil old.sent);
-  reported = read_nothing fault old.left;
-  same = refl;
-}
+-- what holds anyway holds of an error
+pub on_err : {T E O : Type 0} (r : Result T E) → O → OnErr r O
+on_err (Ok x) o = tt
+on_err (Err e) o = o
 
 abbrev traffic : Option (List ℕ) → Option (List ℕ) → Bool → Traffic
 traffic sent left broken = record { sent = sent; left = left; is_broken = broken }
 
--- it failed while the bytes of the request were sent, or then
-pub fails_later : (old : Traffic) (s t l m : Option (List ℕ)) (broken : Bool) (line bytes : List ℕ)
-    (fault : NodeFault) →
-    traffic s l broken ≡ old → bytes ≡ request line → AppendsPrefix s t bytes → ReadsNone fault l m →
+-- a prefix of the request went out, and no reply line came
+pub fails_later : (old : Traffic) (s t l m : Option (List ℕ)) (broken : Bool) (line : List ℕ) (fault : NodeFault) →
+    traffic s l broken ≡ old → AppendsPrefix s t (request line) → ReadsNone fault l m →
     FailsExchange old line fault (traffic t m broken)
-fails_later old s t l m broken line bytes fault here whole a h = rw (← here) (record {
-  asked = subst (AppendsPrefix s t) whole a;
-  reported = h;
-  same = refl;
-})
+fails_later old s t l m broken line fault here a h = rw (← here) (record { asked = a; reported = h; same = refl })
 
 -- want of memory breaks nothing
 pub lacks_memory : (old new : Traffic) (line : List ℕ) (fault : NodeFault) → fault ≡ faults.WantOfMemory →

@@ -1,7 +1,11 @@
 //! A connection to a node.
 
-ghost use Rattle.std.specs.Prelude.{◌≡◌, ℕ, List, IfOk, IfErr, false, string_bytes};
+ghost use Rattle.std.specs.Prelude.{◌≡◌, ℕ, List, IfOk, IfErr, OnOk, OnErr, false, string_bytes};
+ghost use Rattle.std.specs.Io.KnownBytes.{Appends, Consumes};
+ghost use Rattle.desk_output.specs.Prefixes.{AppendsPrefix};
 ghost use Rattle.desk_lines.specs.Holding.{HoldsLine};
+ghost use Rattle.desk_send.specs.Replies.{IsReplyLine, ReadsNone};
+ghost use Rattle.desk_send.specs.Exchanges.{request};
 
 use crate::fault::NodeFault;
 use crate::reply::read_reply;
@@ -11,6 +15,31 @@ use desk_types::Refusal;
 use std::alloc::Global;
 use std::io::{BufRead, Write};
 use std::marker::Model;
+
+/// Sends the line that has come to a node, and reads the reply to it. Where there is none, no further line is to be
+/// sent: what comes next may belong to this one. Err where memory is refused, and where the node takes no bytes or
+/// gives no reply line.
+pub fn exchange_line<B: BufRead, W: Write>(
+    alloc: Global,
+    reader: &mut B,
+    writer: &mut W,
+    line: &LineBuffer,
+) -> Result<String, NodeFault>
+    // The request went out, and the next line that the node gave is the reply.
+    ensures asked { OnOk result ((text : List ℕ) → HoldsLine line.now text →
+        Appends (W.contents writer.old) (W.contents writer.new) (request text)) }
+    ensures reported { IfOk result (λ reply.
+        Consumes (B.remaining reader.old) (B.remaining reader.new) (string_bytes reply)
+        × IsReplyLine (string_bytes reply)) }
+    // Or a prefix of it went out, and no reply line came.
+    ensures part { OnErr result ((text : List ℕ) → HoldsLine line.now text →
+        AppendsPrefix (W.contents writer.old) (W.contents writer.new) (request text)) }
+    ensures none { IfErr result (λ fault. ReadsNone fault (B.remaining reader.old) (B.remaining reader.new)) }
+{
+    let request = request_bytes(alloc, line)?;
+    send_bytes(writer, request.as_slice())?;
+    read_reply(alloc, reader)
+}
 
 /// A connection to a node that answers lines: what reads the node's bytes, and what writes to it. A contract sees the
 /// bytes that were sent and those that the node will give, where they are known.
@@ -76,9 +105,7 @@ impl<B: BufRead, W: Write> NodeConnection<B, W> {
         ensures err { IfErr result (λ fault. (text : List ℕ) → HoldsLine line.now text →
             FailsExchange self.old text fault self.new) }
     {
-        let request = request_bytes(self.alloc, line)?;
-        send_bytes(&mut self.writer, request.as_slice())?;
-        read_reply(self.alloc, &mut self.reader)
+        exchange_line(self.alloc, &mut self.reader, &mut self.writer, line)
     }
 }
 

@@ -5,7 +5,8 @@ use std::alloc::AllocError;
 
 /// Why a node gave no reply.
 #[derive(Drop)]
-pub(crate) enum NodeFault {
+pub enum NodeFault {
+    /// Memory was refused.
     WantOfMemory,
     /// The node takes no bytes, or gives no reply line.
     Broken,

@@ -8,6 +8,7 @@ mod reply;
 mod request;
 mod send;
 
-pub use connection::NodeConnection;
+pub use connection::{NodeConnection, exchange_line};
+pub use fault::NodeFault;
 pub use reply::REPLY_BYTES;
 pub use send::send_lines;

@@ -12,5 +12,5 @@ mod status;
 pub use cluster::run_group;
 pub use faults::served_status;
 pub use ports::{bind_node, open_group};
-pub use send::send_input;
-pub use status::show_status;
+pub use send::{SendRun, send_input};
+pub use status::{StatusRun, show_status};

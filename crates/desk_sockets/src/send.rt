@@ -1,6 +1,6 @@
 //! The lines that are sent to a node, or to the primary of a group.
 
-ghost use Rattle.std.specs.Prelude.{◌≡◌, ◌≤◌, IfOk, IfErr, IfSome, IsOk};
+ghost use Rattle.std.specs.Prelude.{◌≡◌, ◌≤◌, false, is_some, IfOk, IfErr, IfSome, IsOk};
 ghost use Rattle.std.specs.Io.KnownBytes.{IsAtEnd};
 ghost use Rattle.desk_types.specs.declared.refusal.Refusal.TheVariants as refusals;
 ghost use Rattle.desk_output.specs.Telling.{TellsFirst};
@@ -20,20 +20,30 @@ use desk_options::{FollowOptions, SendOptions};
 use desk_output::{CountedInput, refusal_status, tell_unread};
 use desk_records::{Opened, Sealed};
 use desk_send::{NodeConnection, send_lines};
-use desk_types::Refusal;
+use desk_types::{Refusal, WantOfMemory};
 use std::alloc::Global;
-use std::io::{self, BufRead, BufReader, Read, Write};
+use std::io::{self, BufReader, Read, Write};
 use std::net::TcpStream;
 use std::time::Duration;
 
 /// For so many seconds a node with a key may be silent before it has shown that it holds it.
 const PROOF_SECONDS: u64 = 8;
 
-/// Sends the lines of the input over a connection, writes the reply to each as it comes, and answers the exit status.
-fn lines_status<I: Read, O: Write, E: Write, B: BufRead + Drop, W: Write + Drop>(
+/// A run of `desk send`: what the words ask for, and the key by which.
+#[derive(Drop)]
+pub struct SendRun {
+    pub options: SendOptions,
+    /// The key of the file that the words name, where they name one.
+    pub key: Option<Key>,
+    ghost given: { is_some key ≡ is_some options.key },
+}
+
+/// Sends the lines of the input over both directions of a connection, writes the reply to each as it comes, and answers
+/// the exit status.
+fn lines_status<I: Read, O: Write, E: Write, B: Read + Drop, W: Write + Drop>(
     alloc: Global,
     port: u16,
-    connection: NodeConnection<B, W>,
+    ends: (B, W),
     input: &mut CountedInput<I>,
     output: &mut O,
     errors: &mut E,
@@ -42,6 +52,11 @@ fn lines_status<I: Read, O: Write, E: Write, B: BufRead + Drop, W: Write + Drop>
     // It ends with 0 only where the input was read to its end.
     ensures end { result ≡ DONE → IsAtEnd (I.remaining input.new.input) }
 {
+    let (reader, writer) = ends;
+    let Ok(reader) = BufReader::new(alloc, reader) else {
+        return refusal_status(errors, &Refusal::WantOfMemory);
+    };
+    let connection = NodeConnection::new(alloc, reader, writer);
     let (connection, outcome) = send_lines(alloc, input, output, connection);
     let is_broken = connection.is_broken();
     drop(connection);
@@ -50,16 +65,18 @@ fn lines_status<I: Read, O: Write, E: Write, B: BufRead + Drop, W: Write + Drop>
     status
 }
 
-/// Sends the lines of the input to the node that a connection was to be made to, writes its reply to each as it comes,
-/// and answers the exit status.
+/// Sends the lines of the input to the node that a connection was to be made to, as they are, writes its reply to each
+/// as it comes, and answers the exit status.
 fn connected_status<I: Read, O: Write, E: Write>(
     alloc: Global,
-    port: u16,
+    options: &SendOptions,
     connected: io::Result<TcpStream>,
     input: &mut CountedInput<I>,
     output: &mut O,
     errors: &mut E,
 ) -> u8
+    // Where a key is named, no line goes without a handshake.
+    requires bare { is_some options.now.key ≡ false }
     ensures status { result ≤ FAILED }
     // It ends with 0 only where the connection was made, and the input was read to its end.
     ensures done { result ≡ DONE → IsOk connected }
@@ -69,15 +86,12 @@ fn connected_status<I: Read, O: Write, E: Write>(
 {
     let stream = match connected {
         Ok(stream) => stream,
-        Err(_) => return no_node_status(errors, port),
+        Err(_) => return no_node_status(errors, options.port),
     };
     // each line goes out at once; where the host can not do that, it goes out late
     let _ = stream.set_nodelay(true);
-    let Ok(reader) = BufReader::new(alloc, &stream) else {
-        return refusal_status(errors, &Refusal::WantOfMemory);
-    };
-    let connection = NodeConnection::new(alloc, reader, &stream);
-    lines_status(alloc, port, connection, input, output, errors)
+    let ends = (&stream, &stream);
+    lines_status(alloc, options.port, ends, input, output, errors)
 }
 
 /// Both directions to the node that a connection was made to, once that has shown that it holds the key. Else it tells
@@ -112,30 +126,31 @@ fn proved_ends<'a>(
     }
 }
 
+/// Sends the lines of the standard input by records alone, to the node that has shown that it holds the key, and
+/// answers the exit status.
+fn sealed_status(rt: &HostRuntime, port: u16, ends: (Opened<&TcpStream>, Sealed<&TcpStream>)) -> u8
+    ensures status { result ≤ FAILED }
+{
+    let mut input = CountedInput::new(rt.stdin());
+    lines_status(
+        rt.alloc(),
+        port,
+        ends,
+        &mut input,
+        &mut rt.stdout(),
+        &mut rt.stderr(),
+    )
+}
+
 /// Sends the lines of the standard input to the node that a connection was made to, once that has shown that it holds
 /// the key, and answers the exit status.
 fn proved_status(rt: &HostRuntime, host: &str, port: u16, stream: &TcpStream, key: Key) -> u8
     ensures status { result ≤ FAILED }
 {
-    let alloc = rt.alloc();
-    let mut errors = rt.stderr();
-    let (opened, sealed) = match proved_ends(rt, host, port, stream, key) {
-        Ok(ends) => ends,
-        Err(status) => return status,
-    };
-    let Ok(reader) = BufReader::new(alloc, opened) else {
-        return refusal_status(&mut errors, &Refusal::WantOfMemory);
-    };
-    let connection = NodeConnection::new(alloc, reader, sealed);
-    let mut input = CountedInput::new(rt.stdin());
-    lines_status(
-        alloc,
-        port,
-        connection,
-        &mut input,
-        &mut rt.stdout(),
-        &mut errors,
-    )
+    match proved_ends(rt, host, port, stream, key) {
+        Ok(ends) => sealed_status(rt, port, ends),
+        Err(status) => status,
+    }
 }
 
 /// Sends the lines of the standard input to a node whose port for sessions has a key, and answers the exit status.
@@ -152,12 +167,14 @@ fn keyed_status(rt: &HostRuntime, host: &str, port: u16, key: Key) -> u8
 /// answers the exit status.
 fn followed_lines_status<I: Read, O: Write, E: Write, N: Nodes + Drop>(
     alloc: Global,
-    first: u16,
+    options: &SendOptions,
     follower: Follower<N>,
     input: &mut CountedInput<I>,
     output: &mut O,
     errors: &mut E,
 ) -> u8
+    // Nodes are asked by a key exactly where one is named.
+    requires keyed { N.has_key follower.nodes ≡ is_some options.now.key }
     ensures status { result ≤ FAILED }
     // It ends with 0 only where the input was read to its end.
     ensures end { result ≡ DONE → IsAtEnd (I.remaining input.new.input) }
@@ -171,26 +188,42 @@ fn followed_lines_status<I: Read, O: Write, E: Write, N: Nodes + Drop>(
     let (follower, outcome) = follow_lines(alloc, input, output, follower);
     let (nodes, is_late) = (follower.count, follower.is_late);
     drop(follower);
-    let status = followed_status(errors, first, nodes, is_late, &outcome);
+    let status = followed_status(errors, options.port, nodes, is_late, &outcome);
     tell_unread(errors, input);
     status
 }
 
+/// Who follows the primary of a group with this address. Err where memory is refused.
+fn group_follower(
+    rt: &HostRuntime,
+    address: GroupAddress,
+    group: &FollowOptions,
+) -> Result<Follower<GroupNodes<HostRuntime>>, WantOfMemory>
+    ensures address { IfOk result (λ f. f.nodes.address ≡ address) }
+    ensures count { IfOk result (λ f. f.count ≡ group.now.nodes) }
+{
+    let nodes = GroupNodes::new(*rt, rt.alloc(), address, group.nodes, group.seconds)?;
+    Ok(Follower::new(nodes, group.nodes))
+}
+
 /// Sends the lines of the standard input to the primary of a group, whichever node that is, and answers the exit
 /// status.
-fn follow_input(rt: &HostRuntime, address: GroupAddress, group: FollowOptions) -> u8
+fn follow_input(rt: &HostRuntime, run: SendRun, group: FollowOptions) -> u8
     ensures status { result ≤ FAILED }
 {
-    let FollowOptions { nodes, seconds } = group;
-    let first = address.first;
-    let Ok(asked) = GroupNodes::new(*rt, rt.alloc(), address, nodes, seconds) else {
+    let SendRun { mut options, key } = run;
+    let address = GroupAddress {
+        first: options.port,
+        hosts: Hosts::new(options.hosts.take()),
+        key,
+    };
+    let Ok(follower) = group_follower(rt, address, &group) else {
         return refusal_status(&mut rt.stderr(), &Refusal::WantOfMemory);
     };
-    let follower = Follower::new(asked, nodes);
     let mut input = CountedInput::new(rt.stdin());
     followed_lines_status(
         rt.alloc(),
-        first,
+        &options,
         follower,
         &mut input,
         &mut rt.stdout(),
@@ -200,36 +233,25 @@ fn follow_input(rt: &HostRuntime, address: GroupAddress, group: FollowOptions) -
 
 /// Sends the lines of the standard input to the node whose sessions come to the port, or to the primary of the group
 /// whose first port it is, writes the reply to each as it comes, and answers the exit status.
-pub fn send_input(rt: &HostRuntime, options: SendOptions, key: Option<Key>) -> u8
+pub fn send_input(rt: &HostRuntime, run: SendRun) -> u8
     ensures status { result ≤ FAILED }
 {
-    let SendOptions {
-        port,
-        group,
-        host,
-        hosts,
-        ..
-    } = options;
-    if let Some(group) = group {
-        let address = GroupAddress {
-            first: port,
-            hosts: Hosts::new(hosts),
-            key,
-        };
-        return follow_input(rt, address, group);
+    let SendRun { mut options, key } = run;
+    if let Some(group) = options.group.take() {
+        return follow_input(rt, SendRun { options, key }, group);
     }
-    let host = match &host {
+    let host = match &options.host {
         Some(host) => host.as_str(),
         None => LOOPBACK,
     };
     if let Some(key) = key {
-        return keyed_status(rt, host, port, key);
+        return keyed_status(rt, host, options.port, key);
     }
-    let connected = TcpStream::connect(rt, (host, port));
+    let connected = TcpStream::connect(rt, (host, options.port));
     let mut input = CountedInput::new(rt.stdin());
     connected_status(
         rt.alloc(),
-        port,
+        &options,
         connected,
         &mut input,
         &mut rt.stdout(),
