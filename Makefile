@@ -24,6 +24,7 @@ bench:
 	scripts/bench/read-latency
 	scripts/bench/node-memory
 	scripts/bench/epoch-starts
+	scripts/bench/long-run
 	scripts/bench/page-speed
 
 # make release VERSION=1.0.0: an archive of the program as LLVM compiles it.

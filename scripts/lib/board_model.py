@@ -250,6 +250,9 @@ class Board:
         self.stand_bys = [pair for pair in self.stand_bys if pair[0] != unit]
         return 'stood_down', {}
 
+    def do_replace(self, document, _):
+        return 'replaced', {}
+
     def apply(self, document, opened):
         """Does an entry, and gives its reply line. `opened` is its time in seconds."""
         reply = {'session': document['session'], 'number': document['number'], 'place': self.place + 1}

@@ -7,13 +7,17 @@ FIELDS = {
     'unlink': ['incident', 'other'], 'merge': ['incident', 'into'], 'split': ['incident', 'call', 'kind', 'where'],
     'clear': ['incident'], 'reopen': ['incident'], 'note': ['incident', 'text'], 'sign_on': ['unit'],
     'sign_off': ['unit'], 'assign': ['unit', 'incident'], 'status': ['unit', 'status'], 'release': ['unit'],
-    'stand_by': ['unit', 'incident'], 'stand_down': ['unit'],
+    'stand_by': ['unit', 'incident'], 'stand_down': ['unit'], 'replace': ['node', 'token'],
 }
+# how many bytes a member has that is a number
+NUMBERS = {'node': 1, 'token': 8}
 
 
 def field_bytes(document, name):
     if name == 'status':
         return bytes([STATUSES.index(document[name])])
+    if name in NUMBERS:
+        return document[name].to_bytes(NUMBERS[name], 'big')
     if name.startswith('?'):
         return b'\x01' + field_bytes(document, name[1:]) if name[1:] in document else b'\x00'
     text = document[name].encode()
@@ -51,7 +55,7 @@ def greatest_place(kind, fields):
 
 
 def version_of(kind, fields):
-    """The version of a packet: 2 where a place is past the logs of version 1, or an entry a stand_by or stand_down."""
+    """The version of a packet: 2 where a place is past the logs of version 1, or an entry's verb is a new one."""
     if greatest_place(kind, fields) > FIRST_LOG_ENTRIES:
         return 2
     at = ENTRIES_AT.get(kind, len(fields))

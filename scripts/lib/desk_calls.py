@@ -15,8 +15,9 @@ DONE = re.compile(r'^(.*)\) += (\d+)')
 WORDS = re.compile(r'^\d+<(TCP:\[[^\]]*\]|[^>]*)>(?:, "([^"]*)")?.*?(?:, (\d+))?$')
 TCP = re.compile(r'^TCP:\[[\d.]+:(\d+)->[\d.]+:(\d+)\]$')
 PREPARE, PREPARE_OK, COMMIT = 1, 2, 3
-# what a connection begins with that is not one of steps of epoch 0: this mark, its purpose and its epoch
-MARK, STEP, HEADER_BYTES = b'\xff\xff\xff\x03', 0, 13
+# what a connection begins with, unless it is one of steps of epoch 0 and an epoch has all places: a mark, which is this
+# number and how many places an epoch has, or a larger one where it has all, its purpose and its epoch
+PLACES_MARK, STEP, HEADER_BYTES = 0xfffe_0000, 0, 13
 # where the place stands in a packet of these kinds, and where the commit; the body of a Prepare's command is its end
 PLACE_AT, COMMIT_AT, BODY_AT = {1: 11, 2: 11}, {1: 19, 3: 11, 5: 19, 6: 11, 8: 19}, 45
 
@@ -85,9 +86,14 @@ def cut(calls, end_of):
         start = end
 
 
+def is_mark(data):
+    """Whether four bytes are the mark of a header: no frame is as long."""
+    return int.from_bytes(data, 'big') >= PLACES_MARK
+
+
 def end_of_frame(data, start):
     """The end of a frame, or of a header."""
-    if data[start:start + 4] == MARK:
+    if is_mark(data[start:start + 4]):
         return start + HEADER_BYTES
     return start + 4 + int.from_bytes(data[start:start + 4], 'big') if start + 4 <= len(data) else None
 
@@ -103,7 +109,7 @@ def steps_of(calls, places):
     last byte of each."""
     epoch, purpose = 0, STEP
     for piece, *ends in cut(calls, end_of_frame):
-        if piece[:4] == MARK:
+        if is_mark(piece[:4]):
             purpose, epoch = piece[4], int.from_bytes(piece[5:], 'big')
         elif purpose == STEP:
             packet = Packet(piece[4:])

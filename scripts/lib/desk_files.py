@@ -14,7 +14,7 @@ TABLES = '''CREATE TABLE node (slot INTEGER PRIMARY KEY CHECK (slot = 1),
 CREATE TABLE entry (place INTEGER PRIMARY KEY, client INTEGER NOT NULL,
   number INTEGER NOT NULL, body BLOB NOT NULL);'''
 CLIENTS = 'CREATE TABLE client (client INTEGER PRIMARY KEY, number INTEGER NOT NULL, place INTEGER NOT NULL)'
-NEW_VERBS = ('stand_by', 'stand_down')
+NEW_VERBS = ('stand_by', 'stand_down', 'replace')
 FILLER_SESSION = 1000
 
 
@@ -36,9 +36,9 @@ class Filler:
 PAGES = [4096, 1024]
 
 
-def make_file(file, node, n, commands, version=2, page=PAGES[0], epoch=0):
+def make_file(file, node, n, commands, version=2, page=PAGES[0], epoch=0, places=0):
     """A file of a node whose log has these commands, all of them committed, in view 0. Its pages have so many bytes.
-    That of a later epoch than the first bears its number."""
+    That of a later epoch than the first bears its number. The first has the places of epochs that were asked for."""
     base = sqlite3.connect(file)
     base.execute(f'PRAGMA page_size = {page}')
     base.executescript(TABLES)
@@ -53,14 +53,17 @@ def make_file(file, node, n, commands, version=2, page=PAGES[0], epoch=0):
     if epoch:
         base.execute('CREATE TABLE epoch (number INTEGER PRIMARY KEY)')
         base.execute('INSERT INTO epoch VALUES (?)', [epoch])
+    elif places:
+        base.execute('CREATE TABLE member (token INTEGER PRIMARY KEY, places INTEGER NOT NULL)')
+        base.execute('INSERT INTO member VALUES (0, ?)', [places])
     base.commit()
     base.close()
 
 
-def make_logs(room, n, count, version=2, pages=PAGES):
-    """The files of a group, whose logs have so many entries, with pages of these sizes by turns. It gives who sent the
-    entries."""
+def make_logs(room, n, count, version=2, pages=PAGES, places=0):
+    """The files of a group, whose logs have so many entries, with pages of these sizes by turns, and epochs of so many
+    places where that was asked for. It gives who sent the entries."""
     filler = Filler(count, version)
     for node in range(n):
-        make_file(file_of(room, node), node, n, filler.sent, version, pages[node % len(pages)])
+        make_file(file_of(room, node), node, n, filler.sent, version, pages[node % len(pages)], places=places)
     return [filler]

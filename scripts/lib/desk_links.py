@@ -61,12 +61,15 @@ class Link:
         self.connections, self.lock = set(), threading.Lock()
         self.listener = listen(port, self.serve, hosts[0])
 
+    def connect(self, stream):
+        return Connection(stream, self.target)
+
     def serve(self, stream):
         """Carries one connection to its end."""
         try:
             if self.way == 'cut':
                 raise OSError
-            connection = Connection(stream, self.target)
+            connection = self.connect(stream)
         except OSError:
             stream.close()
             return
@@ -153,6 +156,8 @@ class KeyedLink(Link):
 class Links:
     """The links of a group, by who sends and who receives, and doors to its sessions at the ports of one group."""
 
+    kind = Link
+
     def __init__(self, n, seed):
         self.firsts = []
         while len(self.firsts) < n:
@@ -162,8 +167,8 @@ class Links:
         self.first = first_port()
         self.doors = [Door(self.first + SESSION_PORTS + node, self.firsts[node] + SESSION_PORTS + node, None)
                       for node in range(n)]
-        self.all = {(one, other): Link(self.firsts[one] + other, self.firsts[other] + other,
-                                       random.Random(f'{seed} {one} {other}'))
+        self.all = {(one, other): self.kind(self.firsts[one] + other, self.firsts[other] + other,
+                                            random.Random(f'{seed} {one} {other}'))
                     for one in range(n) for other in range(n) if one != other}
 
     def of(self, node):

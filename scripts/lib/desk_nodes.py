@@ -178,14 +178,19 @@ def clear(file):
         os.remove(name)
 
 
+def copy_file(file, copy):
+    """Copies a file of a node, and its log where it has one."""
+    for end in ('', '-wal'):
+        if os.path.exists(file + end):
+            shutil.copy(file + end, copy + end)
+
+
 def copy_of(file, room):
     """A copy of a node's files in a folder, each beside one of its log where it has one."""
     copy = f'{room}/copy'
     clear(copy)
     for epoch, each in enumerate(epoch_files(file)):
-        for end in ('', '-wal'):
-            if os.path.exists(each + end):
-                shutil.copy(each + end, epoch_file(copy, epoch) + end)
+        copy_file(each, epoch_file(copy, epoch))
     return copy
 
 
@@ -193,7 +198,7 @@ def copy_of(file, room):
 STORE_FAULT = 'desk: 41 StoreFault\n'
 CLOSED, UNWRITTEN = 'can not be opened or made', \
     'can not be read or written, or a view, an index or a foreign key in it names node, entry or client'
-UNMARKED = 'can not be read or written, or has another table epoch'
+UNMARKED = 'can not be read or written, or has another table (epoch|member)'
 
 
 def is_store_fault(ended, file):

@@ -41,13 +41,19 @@ def tables_of(file):
     return {name for name, in told_of(file, names)[0]} if is_made(file) else set()
 
 
-def rows_of_epoch(file):
-    """The committed entries that a file of one epoch holds, as client, number and body; none where it was not made to
-    its end."""
+def state_of(file):
+    """How many entries are committed that a file of one epoch holds, and all that it holds, as client, number and body;
+    none where it was not made to its end."""
     if 'node' not in tables_of(file):
-        return []
+        return 0, []
     [[(commit,)], rows] = told_of(file, 'SELECT commit_no FROM node',
                                   'SELECT client, number, body FROM entry ORDER BY place')
+    return commit, rows
+
+
+def rows_of_epoch(file):
+    """The committed entries that a file of one epoch holds."""
+    commit, rows = state_of(file)
     return rows[:commit]
 
 
@@ -56,18 +62,29 @@ def rows_of(file):
     return [row for each in epoch_files(file) for row in rows_of_epoch(each)]
 
 
-def is_filled(file, places):
-    """Whether each epoch of a node has so many committed entries, but for the last one that has begun, and a file for
-    the next one is there."""
-    counts = [len(rows_of_epoch(it)) for it in epoch_files(file)]
+def are_filled(states, places):
+    """Whether each epoch of a node, whose files hold these states, has so many entries, all of them committed, but for
+    the last one that has begun, and a file for the next one is there."""
+    counts = [commit for commit, _ in states]
     past, rest = divmod(sum(counts), places)
     wanted = [places] * past + [rest]
-    return counts == wanted + [0] * (len(counts) - len(wanted)) and (len(counts) > len(wanted) or rest == 0)
+    return counts == wanted + [0] * (len(counts) - len(wanted)) and (len(counts) > len(wanted) or rest == 0) \
+        and all(len(rows) == places for _, rows in states[:past])
+
+
+def is_filled(file, places):
+    """The same of the files of a node."""
+    return are_filled([state_of(it) for it in epoch_files(file)], places)
+
+
+def is_sound_epoch(file):
+    """Whether SQLite finds nothing wrong in a file of one epoch, as far as it is made."""
+    return not is_made(file) or told_of(file, 'PRAGMA integrity_check') == [[('ok',)]]
 
 
 def is_sound(file):
     """Whether SQLite finds nothing wrong in a node's files, as far as they are made."""
-    return all(told_of(it, 'PRAGMA integrity_check') == [[('ok',)]] for it in epoch_files(file) if is_made(it))
+    return all(is_sound_epoch(it) for it in epoch_files(file))
 
 
 def is_whole(file):

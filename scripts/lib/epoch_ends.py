@@ -6,7 +6,7 @@ import threading
 import time
 
 from command_bytes import entry_of, frame_of, prepare, start_view
-from desk_calls import HEADER_BYTES, MARK, PREPARE_OK, STEP
+from desk_calls import HEADER_BYTES, PLACES_MARK, PREPARE_OK, STEP, is_mark
 from desk_clients import LONG_SECONDS, SECONDS
 from desk_links import listen
 from desk_nodes import HOST, clear, copy_of, epoch_file, epoch_files, file_of, first_port, same, serve
@@ -23,7 +23,7 @@ ROWS = [(7, number, entry_of({'session': 7, 'number': number, 'do': 'open', 'kin
 
 def header(epoch):
     """What a connection of steps of an epoch begins with."""
-    return MARK + bytes([STEP]) + epoch.to_bytes(8, 'big') if epoch else b''
+    return (PLACES_MARK + PLACES).to_bytes(4, 'big') + bytes([STEP]) + epoch.to_bytes(8, 'big')
 
 
 class Primary:
@@ -42,7 +42,7 @@ class Primary:
         try:
             with stream.makefile('rb') as frames:
                 while len(head := frames.read(4)) == 4:
-                    if head == MARK:
+                    if is_mark(head):
                         rest = frames.read(HEADER_BYTES - 4)
                         purpose, epoch = rest[0], int.from_bytes(rest[1:], 'big')
                     else:

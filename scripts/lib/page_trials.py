@@ -20,6 +20,8 @@ RECORD_ROWS = """Object.fromEntries([...document.querySelectorAll('#record-value
 CLOSED = "[...document.querySelectorAll('#closed-table tbody tr')].filter(r => r.textContent.includes(%s))"
 # refusals after which the page's server asks again: no page is told of them
 ASKED_AGAIN = {30, 32, 34, 40}
+# that of a `replace` whose node was not heard
+UNHEARD = 38
 CHOICES = 80
 
 
@@ -422,7 +424,8 @@ def units_are_drawn_behind_a_select(page, command):
 
 
 def refusals_without_words():
-    """An expression of the refusals that the page has no words for, of those that a page is told."""
+    """An expression of the refusals that the page has no words for, of those that a page is told. It sends no
+    `replace`, which 38 refuses."""
     numbers = {int(it) for it in re.findall(r'^\| (\d+) \| \w+ \| ', text_of('docs/DOCUMENTS.md'), re.M)}
-    told = sorted(it for it in numbers if it < 40 and it not in ASKED_AGAIN)
+    told = sorted(it for it in numbers if it < 40 and it not in (*ASKED_AGAIN, UNHEARD))
     return f'{json.dumps(told)}.filter((it) => !REFUSED[it])'
