@@ -22,9 +22,8 @@ use Rattle.desk_codec.specs.Reading.{first_clear, first_reopen, first_note, firs
 use Rattle.desk_codec.specs.Reading.{first_set_status, first_release, first_stand_by, first_stand_down}
 use Rattle.desk_codec.specs.Reading.{first_replace, first_of_verb, first_body}
 use Rattle.desk_codec.proofs.Forms.{IsBytes, IsBytes-rest, bind_some, Takes, Exact, and_then, takes_as, again_as}
-use Rattle.desk_codec.proofs.Fields.{exact_seconds, exact_text, exact_unit, unit_length, exact_identifier}
-use Rattle.desk_codec.proofs.Fields.{exact_node, exact_optional, exact_token}
-use Rattle.desk_codec.proofs.Fields.{FitsOptional, exact_status}
+use Rattle.desk_codec.proofs.Fields.{exact_seconds, exact_text, exact_unit, unit_length, exact_identifier, exact_node}
+use Rattle.desk_codec.proofs.Fields.{exact_optional, exact_token, FitsOptional, exact_status}
 use Rattle.desk_codec.proofs.Identifiers.{canonical_length}
 
 exact_kind : Exact short_text (FitsText KIND_BYTES) (first_text KIND_BYTES)
@@ -65,133 +64,67 @@ made_takes verb f ea spelled fits bytes x h e =
     subst (λ (c : Command). Takes body_spelling FitsCommand (begins ∷ bytes) c x.1) (sym m.1)
     (record { parts = parts; fits = fits m.0 t.fits; rest_bytes = t.rest_bytes })
 
-open_takes : TakesVerb verbs.Open first_open
-unfolding first_open body_spelling
-open_takes bytes x h e =
+verb_takes : (verb : Verb) → TakesVerb verb (first_of_verb verb)
+unfolding body_spelling first_of_verb first_open first_add_call first_link first_unlink first_merge first_split
+    first_clear first_reopen first_note first_sign_on first_sign_off first_assign first_set_status first_release
+    first_stand_by first_stand_down first_replace
+verb_takes verbs.Open bytes x h e =
     made_takes verbs.Open (λ x. Open x.0 x.1.0 x.1.1.0 x.1.1.1.0 x.1.1.1.1)
     (and_then exact_seconds (and_then exact_kind
     (and_then exact_site (and_then exact_optional_incident exact_optional_call))))
     (λ x. refl) (λ x f. (f.0, f.1.0, f.1.1.0, f.1.1.1.0, f.1.1.1.1)) bytes x h e
-
-add_call_takes : TakesVerb verbs.AddCall first_add_call
-unfolding first_add_call body_spelling
-add_call_takes bytes x h e =
+verb_takes verbs.AddCall bytes x h e =
     made_takes verbs.AddCall (λ x. AddCall x.0 x.1.0 x.1.1)
     (and_then exact_seconds (and_then exact_incident exact_call)) (λ x. refl) (λ x f. (f.0, f.1.0, f.1.1)) bytes x h e
-
-link_takes : TakesVerb verbs.Link first_link
-unfolding first_link body_spelling
-link_takes bytes x h e =
+verb_takes verbs.Link bytes x h e =
     made_takes verbs.Link (λ x. Link x.0 x.1.0 x.1.1)
     (and_then exact_seconds (and_then exact_incident exact_incident)) (λ x. refl) (λ x f. (f.0, f.1.0, f.1.1))
     bytes x h e
-
-unlink_takes : TakesVerb verbs.Unlink first_unlink
-unfolding first_unlink body_spelling
-unlink_takes bytes x h e =
+verb_takes verbs.Unlink bytes x h e =
     made_takes verbs.Unlink (λ x. Unlink x.0 x.1.0 x.1.1)
     (and_then exact_seconds (and_then exact_incident exact_incident)) (λ x. refl) (λ x f. (f.0, f.1.0, f.1.1))
     bytes x h e
-
-merge_takes : TakesVerb verbs.Merge first_merge
-unfolding first_merge body_spelling
-merge_takes bytes x h e =
+verb_takes verbs.Merge bytes x h e =
     made_takes verbs.Merge (λ x. Merge x.0 x.1.0 x.1.1)
     (and_then exact_seconds (and_then exact_incident exact_incident)) (λ x. refl) (λ x f. (f.0, f.1.0, f.1.1))
     bytes x h e
-
-split_takes : TakesVerb verbs.Split first_split
-unfolding first_split body_spelling
-split_takes bytes x h e =
+verb_takes verbs.Split bytes x h e =
     made_takes verbs.Split (λ x. Split x.0 x.1.0 x.1.1.0 x.1.1.1.0 x.1.1.1.1)
     (and_then exact_seconds (and_then exact_incident (and_then exact_call (and_then exact_kind exact_site))))
     (λ x. refl) (λ x f. (f.0, f.1.0, f.1.1.0, f.1.1.1.0, f.1.1.1.1)) bytes x h e
-
-clear_takes : TakesVerb verbs.Clear first_clear
-unfolding first_clear body_spelling
-clear_takes bytes x h e =
+verb_takes verbs.Clear bytes x h e =
     made_takes verbs.Clear (λ x. Clear x.0 x.1) (and_then exact_seconds exact_incident)
     (λ x. refl) (λ x f. f) bytes x h e
-
-reopen_takes : TakesVerb verbs.Reopen first_reopen
-unfolding first_reopen body_spelling
-reopen_takes bytes x h e =
+verb_takes verbs.Reopen bytes x h e =
     made_takes verbs.Reopen (λ x. Reopen x.0 x.1) (and_then exact_seconds exact_incident)
     (λ x. refl) (λ x f. f) bytes x h e
-
-note_takes : TakesVerb verbs.Note first_note
-unfolding first_note body_spelling
-note_takes bytes x h e =
+verb_takes verbs.Note bytes x h e =
     made_takes verbs.Note (λ x. Note x.0 x.1.0 x.1.1)
     (and_then exact_seconds (and_then exact_incident exact_note)) (λ x. refl) (λ x f. (f.0, f.1.0, f.1.1)) bytes x h e
-
-sign_on_takes : TakesVerb verbs.SignOn first_sign_on
-unfolding first_sign_on body_spelling
-sign_on_takes bytes x h e =
+verb_takes verbs.SignOn bytes x h e =
     made_takes verbs.SignOn (λ x. SignOn x.0 x.1) (and_then exact_seconds exact_unit)
     (λ x. refl) (λ x f. f) bytes x h e
-
-sign_off_takes : TakesVerb verbs.SignOff first_sign_off
-unfolding first_sign_off body_spelling
-sign_off_takes bytes x h e =
+verb_takes verbs.SignOff bytes x h e =
     made_takes verbs.SignOff (λ x. SignOff x.0 x.1) (and_then exact_seconds exact_unit)
     (λ x. refl) (λ x f. f) bytes x h e
-
-assign_takes : TakesVerb verbs.Assign first_assign
-unfolding first_assign body_spelling
-assign_takes bytes x h e =
+verb_takes verbs.Assign bytes x h e =
     made_takes verbs.Assign (λ x. Assign x.0 x.1.0 x.1.1)
     (and_then exact_seconds (and_then exact_unit exact_incident)) (λ x. refl) (λ x f. (f.0, f.1.0, f.1.1)) bytes x h e
-
-set_status_takes : TakesVerb verbs.SetStatus first_set_status
-unfolding first_set_status body_spelling
-set_status_takes bytes x h e =
+verb_takes verbs.SetStatus bytes x h e =
     made_takes verbs.SetStatus (λ x. SetStatus x.0 x.1.0 x.1.1)
     (and_then exact_seconds (and_then exact_unit exact_status)) (λ x. refl) (λ x f. (f.0, f.1.0)) bytes x h e
-
-release_takes : TakesVerb verbs.Release first_release
-unfolding first_release body_spelling
-release_takes bytes x h e =
+verb_takes verbs.Release bytes x h e =
     made_takes verbs.Release (λ x. Release x.0 x.1) (and_then exact_seconds exact_unit)
     (λ x. refl) (λ x f. f) bytes x h e
-
-stand_by_takes : TakesVerb verbs.StandBy first_stand_by
-unfolding first_stand_by body_spelling
-stand_by_takes bytes x h e =
+verb_takes verbs.StandBy bytes x h e =
     made_takes verbs.StandBy (λ x. StandBy x.0 x.1.0 x.1.1)
     (and_then exact_seconds (and_then exact_unit exact_incident)) (λ x. refl) (λ x f. (f.0, f.1.0, f.1.1)) bytes x h e
-
-stand_down_takes : TakesVerb verbs.StandDown first_stand_down
-unfolding first_stand_down body_spelling
-stand_down_takes bytes x h e =
+verb_takes verbs.StandDown bytes x h e =
     made_takes verbs.StandDown (λ x. StandDown x.0 x.1) (and_then exact_seconds exact_unit)
     (λ x. refl) (λ x f. f) bytes x h e
-
-replace_takes : TakesVerb verbs.Replace first_replace
-unfolding first_replace body_spelling
-replace_takes bytes x h e =
+verb_takes verbs.Replace bytes x h e =
     made_takes verbs.Replace (λ x. Replace x.0 x.1.0 x.1.1)
     (and_then exact_seconds (and_then exact_node exact_token)) (λ x. refl) (λ x f. (f.0, f.1.0, f.1.1)) bytes x h e
-
-verb_takes : (verb : Verb) → TakesVerb verb (first_of_verb verb)
-unfolding first_of_verb
-verb_takes verbs.Open = open_takes
-verb_takes verbs.AddCall = add_call_takes
-verb_takes verbs.Link = link_takes
-verb_takes verbs.Unlink = unlink_takes
-verb_takes verbs.Merge = merge_takes
-verb_takes verbs.Split = split_takes
-verb_takes verbs.Clear = clear_takes
-verb_takes verbs.Reopen = reopen_takes
-verb_takes verbs.Note = note_takes
-verb_takes verbs.SignOn = sign_on_takes
-verb_takes verbs.SignOff = sign_off_takes
-verb_takes verbs.Assign = assign_takes
-verb_takes verbs.SetStatus = set_status_takes
-verb_takes verbs.Release = release_takes
-verb_takes verbs.StandBy = stand_by_takes
-verb_takes verbs.StandDown = stand_down_takes
-verb_takes verbs.Replace = replace_takes
 
 body_takes : (bytes : List ℕ) (x : Command × List ℕ) → IsBytes bytes → first_body bytes ≡ Some x →
     Takes body_spelling FitsCommand bytes x.0 x.1

@@ -1,7 +1,6 @@
 -- The entry that bytes begin with.
-use Rattle.std.proofs.Common.{◌≡◌, ℕ, ◌+◌, ◌*◌, ◌<◌, ◌≤◌, ◌&&◌, inl, inr, Bool, true, false, cond, ltb}
-use Rattle.std.proofs.Common.{List, []}
-use Rattle.std.proofs.Common.{◌∷◌, ◌++◌, length, take, drop, refl, sym, ap, subst, ◌∙◌, append-nil, arith, lit≤}
+use Rattle.std.proofs.Common.{◌≡◌, ℕ, ◌+◌, ◌*◌, ◌<◌, ◌≤◌, ◌&&◌, inl, inr, Bool, true, false, cond, ltb, List, [], ◌∷◌}
+use Rattle.std.proofs.Common.{◌++◌, length, take, drop, refl, sym, ap, subst, ◌∙◌, append-nil, arith, lit≤}
 use Rattle.std.proofs.Math.Seq.{take-add}
 use Rattle.std.specs.Prelude.{Result, Ok, Err, nat_le}
 use Rattle.std.specs.Int.{w16, w64, to_be_bytes, from_be_bytes}
@@ -21,11 +20,10 @@ use Rattle.desk_codec.specs.declared.entry.EntryHead.{EntryHead}
 use Rattle.desk_codec.specs.declared.fault.Lack.{Lack}
 use Rattle.desk_codec.specs.declared.fault.Lack.TheVariants.{Needs, NoSpelling}
 use Rattle.desk_codec.specs.Entries.{announced_head, fits_entry_head, front_entry_head, is_entry_in, EntryNeeds}
-use Rattle.desk_codec.specs.Entries.{BeginsNoEntry}
-use Rattle.desk_codec.specs.Entries.{FrontEntry}
+use Rattle.desk_codec.specs.Entries.{BeginsNoEntry, FrontEntry}
 use Rattle.desk_codec.specs.Ranges.{FitsEntry, FitsEntries}
 use Rattle.desk_codec.specs.Spelling.{long, body_spelling, entry_spelling, log_spelling, SpellsBody, SpellsEntry}
-use Rattle.desk_codec.specs.Spelling.{EntriesAreOne, EntriesBeginNone}
+use Rattle.desk_codec.specs.Spelling.{AreOne, EntriesBeginNone}
 use Rattle.desk_codec.proofs.Forms.{IsBytes, IsBytes-drop, IsBytes-take, and_parts}
 use Rattle.desk_codec.proofs.Fields.{wide16, wide64}
 use Rattle.desk_codec.proofs.Bodies.{body_fits, body_length}
@@ -264,7 +262,7 @@ entries_begin_none e f x y r s p q h =
           ∙ drop_at (body_spelling f.command) s _ (sym n),
     )
 
-pub entries_are_one : EntriesAreOne
+pub entries_are_one : AreOne SpellsEntry
 entries_are_one e f x y s t = (
   (λ is. s.spelling ∙ ap entry_spelling is ∙ sym t.spelling),
   (λ is. (entries_begin_none e f x y [] [] s t (ap (λ z. z ++ []) is)).0),

@@ -28,10 +28,9 @@ use Rattle.desk_codec.specs.Faults.{fault_of}
 use Rattle.desk_codec.specs.Ranges.{FitsSeconds, FitsText, FitsUnit, FitsIdentifier}
 use Rattle.desk_codec.specs.Spelling.{long, seconds, short_text, optional_text}
 use Rattle.desk_types.specs.Reading.{◌>>=◌}
-use Rattle.desk_codec.specs.Reading.{Fails, first_byte, first_number, first_long, first_seconds}
-use Rattle.desk_codec.specs.Reading.{first_bytes, first_short, first_short_text, is_within, first_text, first_unit}
-use Rattle.desk_codec.specs.Reading.{is_canonical, first_identifier, first_optional, first_status}
-use Rattle.desk_codec.specs.Reading.{first_node_number, first_token}
+use Rattle.desk_codec.specs.Reading.{Fails, first_byte, first_number, first_long, first_seconds, first_bytes}
+use Rattle.desk_codec.specs.Reading.{first_short, first_short_text, is_within, first_text, first_unit, is_canonical}
+use Rattle.desk_codec.specs.Reading.{first_identifier, first_optional, first_status, first_node_number, first_token}
 use Rattle.desk_codec.proofs.Forms.{IsBytes, IsBytes-drop, IsBytes-take, IsBytes-rest, bind_some, unless_some}
 use Rattle.desk_codec.proofs.Forms.{and_parts, Takes, Exact, mapped_takes, exact_as, exact_checked, exact_of}
 use Rattle.desk_codec.proofs.Identifiers.{canonical_true, canonical_from, canonical_length}

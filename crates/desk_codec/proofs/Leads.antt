@@ -15,7 +15,7 @@ use Rattle.desk_codec.specs.Entries.{is_entry_in, EntryNeeds, BeginsNoEntry}
 use Rattle.desk_codec.specs.Packets.{HasBegun, begun}
 use Rattle.desk_codec.specs.Ranges.{FitsEntries, FitsMessage}
 use Rattle.desk_codec.specs.Spelling.{entry_spelling, packet_spelling}
-use Rattle.desk_codec.specs.Starts.{front_start, start_spelling, start_of, start_in}
+use Rattle.desk_codec.specs.Starts.{front_start, start_spelling, start_of, start_in, NoStart}
 use Rattle.desk_codec.specs.Version.{entries_of, is_new_entry, is_new_place, places_of, version_by, version_of}
 use Rattle.desk_codec.proofs.Entries.{entries_begin_none, needs_none}
 use Rattle.desk_codec.proofs.Fronts.{same_ok, ok_err}
@@ -113,9 +113,6 @@ in_version : (places : Bool) (es : List Entry) (e : Entry) (ds : List Entry) →
 in_version places es e ds =
     needed_two (is_new_entry e) (list_any is_new_entry (es ++ e ∷ ds)) places (any_new es e ds)
 
-abbrev pub NoPacket : List ℕ → Type 0
-NoPacket bytes = (m : Message) (more others : List ℕ) → FitsMessage m → bytes ++ more ≡ packet_spelling m ++ others → ⊥
-
 -- how many entries of a packet are to come
 last_count : (f : PacketStart) (es : List Entry) (left : ℕ) (x more others : List ℕ) (m : Message) →
     HasBegun f es left → (l : LeadsTo f es x more others m) → length l.last ≡ left
@@ -142,7 +139,7 @@ last_fit (e ∷ es) ds f = last_fit es ds f.1
 
 module _ (f : PacketStart) (es : List Entry) (left : ℕ) (has : HasBegun f es left) where
   -- no entry begins so, and one is to come: no packet begins so
-  pub no_entry : (x : List ℕ) → 0 < left → BeginsNoEntry f.head.version x → NoPacket (begun f es ++ x)
+  pub no_entry : (x : List ℕ) → 0 < left → BeginsNoEntry f.head.version x → NoStart (begun f es ++ x)
   no_entry x some none m more others fits h =
       let l = leads f es left x more others m has fits h in
       let n = last_count f es left x more others m has l in

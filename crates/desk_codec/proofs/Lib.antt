@@ -12,4 +12,3 @@ pub mod Packets
 pub mod Wholes
 pub mod Growing
 pub mod Putting
-pub mod NewVerbs

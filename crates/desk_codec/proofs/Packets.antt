@@ -1,6 +1,6 @@
 -- The packet of a start and entries.
 use Rattle.std.proofs.Common.{◌≡◌, ℕ, zero, suc, ◌<◌, ◌≤◌, ◌||◌, Bool, true, false, eqb, List, [], ◌∷◌, ◌++◌, length}
-use Rattle.std.proofs.Common.{drop, refl, sym, ap, subst, ◌∙◌, append-nil, arith, Some, None}
+use Rattle.std.proofs.Common.{drop, refl, sym, ap, subst, ◌∙◌, append-nil, arith, lit≤, Some, None}
 use Rattle.std.specs.Prelude.{nat_lt}
 use Rattle.std.specs.List.{flat_map, list_any}
 use Rattle.std.proofs.lemmas.Bool.Decides.{nat_tests}
@@ -15,9 +15,8 @@ use Rattle.desk_codec.specs.Packets.{rebuilt, PacketOf}
 use Rattle.desk_codec.specs.Ranges.{FitsEntries, FitsMessage, FitsParts, IsPacketLength}
 use Rattle.desk_codec.specs.Reading.{is_message_kind, kind_of_number}
 use Rattle.desk_codec.specs.Spelling.{entry_spelling, packet_spelling, spelling_in, frame_spelling}
-use Rattle.desk_codec.specs.Spelling.{FramesAreOne, FramesBeginNone}
-use Rattle.desk_codec.specs.Starts.{FitsKind, start_of, start_in, start_spelling, start_with}
-use Rattle.desk_codec.specs.Starts.{tells_new_place}
+use Rattle.desk_codec.specs.Spelling.{SpellsFrame, AreOne, FramesBeginNone}
+use Rattle.desk_codec.specs.Starts.{FitsKind, start_of, start_in, start_spelling, start_with, tells_new_place}
 use Rattle.desk_codec.specs.Version.{entries_of, is_new_entry, is_new_place, places_of, version_by, version_of}
 use Rattle.desk_codec.proofs.Entries.{entry_length, log_length}
 use Rattle.desk_codec.proofs.Fronts.{same_ok}
@@ -26,31 +25,19 @@ use Rattle.desk_codec.proofs.Starts.{packet_reads, parts_in}
 
 -- kinds
 
-none_below : (k : ℕ) → k < 1 → is_message_kind k ≡ false
+no_kind : (k : ℕ) → ((n : ℕ) → 1 ≤ n → n ≤ 8 → eqb k n ≡ false) → is_message_kind k ≡ false
 unfolding kind_of_number
-none_below k lt =
-    let one : eqb k 1 ≡ false = grind (arith, nat_tests, lt) in
-    let two : eqb k 2 ≡ false = grind (arith, nat_tests, lt) in
-    let three : eqb k 3 ≡ false = grind (arith, nat_tests, lt) in
-    let four : eqb k 4 ≡ false = grind (arith, nat_tests, lt) in
-    let five : eqb k 5 ≡ false = grind (arith, nat_tests, lt) in
-    let six : eqb k 6 ≡ false = grind (arith, nat_tests, lt) in
-    let seven : eqb k 7 ≡ false = grind (arith, nat_tests, lt) in
-    let eight : eqb k 8 ≡ false = grind (arith, nat_tests, lt) in
-    rw (one, two, three, four, five, six, seven, eight) refl
-
-none_above : (k : ℕ) → 8 < k → is_message_kind k ≡ false
-unfolding kind_of_number
-none_above k lt =
-    let one : eqb k 1 ≡ false = grind (arith, nat_tests, lt) in
-    let two : eqb k 2 ≡ false = grind (arith, nat_tests, lt) in
-    let three : eqb k 3 ≡ false = grind (arith, nat_tests, lt) in
-    let four : eqb k 4 ≡ false = grind (arith, nat_tests, lt) in
-    let five : eqb k 5 ≡ false = grind (arith, nat_tests, lt) in
-    let six : eqb k 6 ≡ false = grind (arith, nat_tests, lt) in
-    let seven : eqb k 7 ≡ false = grind (arith, nat_tests, lt) in
-    let eight : eqb k 8 ≡ false = grind (arith, nat_tests, lt) in
-    rw (one, two, three, four, five, six, seven, eight) refl
+no_kind k other =
+    rw (
+      other 1 (lit≤ tt) (lit≤ tt),
+      other 2 (lit≤ tt) (lit≤ tt),
+      other 3 (lit≤ tt) (lit≤ tt),
+      other 4 (lit≤ tt) (lit≤ tt),
+      other 5 (lit≤ tt) (lit≤ tt),
+      other 6 (lit≤ tt) (lit≤ tt),
+      other 7 (lit≤ tt) (lit≤ tt),
+      other 8 (lit≤ tt) (lit≤ tt),
+    ) refl
 
 pub kinds_between : (k : ℕ) → is_message_kind k ≡ true → (1 ≤ k) × (k ≤ 8)
 kinds_between k is = (low (nat_lt k 1) refl, high (nat_lt 8 k) refl)
@@ -58,14 +45,14 @@ kinds_between k is = (low (nat_lt k 1) refl, high (nat_lt 8 k) refl)
     low : (b : Bool) → nat_lt k 1 ≡ b → 1 ≤ k
     low true t =
         let lt : k < 1 = grind (arith, nat_tests, t) in
-        let none : false ≡ true = sym (none_below k lt) ∙ is in
+        let none : false ≡ true = sym (no_kind k (λ n least most. grind (arith, nat_tests, lt, least))) ∙ is in
         absurd (let no : ⊥ = cc in no)
     low false t = grind (arith, nat_tests, t)
 
     high : (b : Bool) → nat_lt 8 k ≡ b → k ≤ 8
     high true t =
         let lt : 8 < k = grind (arith, nat_tests, t) in
-        let none : false ≡ true = sym (none_above k lt) ∙ is in
+        let none : false ≡ true = sym (no_kind k (λ n least most. grind (arith, nat_tests, lt, most))) ∙ is in
         absurd (let no : ⊥ = cc in no)
     high false t = grind (arith, nat_tests, t)
 
@@ -263,7 +250,7 @@ frames_begin_none m n x y r s p q h =
     let both = frames_same m n r s p.fits q.fits same in
     (both.0, p.spelling ∙ ap frame_spelling both.0 ∙ sym q.spelling, both.1)
 
-pub frames_are_one : FramesAreOne
+pub frames_are_one : AreOne SpellsFrame
 frames_are_one m n x y s t = (
   (λ is. s.spelling ∙ ap frame_spelling is ∙ sym t.spelling),
   (λ is. (frames_begin_none m n x y [] [] s t (ap (λ z. z ++ []) is)).0),

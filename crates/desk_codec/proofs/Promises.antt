@@ -8,7 +8,7 @@ use Rattle.desk_codec.specs.declared.fault.SpellingFault.{SpellingFault}
 use Rattle.desk_codec.specs.declared.fault.SpellingFault.TheVariants.{NoSpelling, NoMemory}
 use Rattle.desk_codec.specs.Faults.{refusal_of}
 use Rattle.desk_codec.specs.Ranges.{FitsCommand}
-use Rattle.desk_codec.specs.Spelling.{body_spelling, SpellsBody, BodiesAreOne}
+use Rattle.desk_codec.specs.Spelling.{body_spelling, SpellsBody, AreOne}
 use Rattle.desk_codec.specs.Reading.{Reader, Fails, whole, first_body, whole_body}
 use Rattle.desk_codec.proofs.Forms.{IsBytes, Exact, whole_takes, whole_again, prefix_free}
 use Rattle.desk_codec.proofs.Bodies.{exact_body}
@@ -41,7 +41,7 @@ unfolding whole_body
 body_refused bytes fault refusal is h =
     refused_as fault refusal (whole_body bytes) is h (λ none c s. none_whole exact_body bytes c s.fits s.spelling none)
 
-pub bodies_are_one : BodiesAreOne
+pub bodies_are_one : AreOne SpellsBody
 bodies_are_one c d x y s t = (
   (λ e. s.spelling ∙ ap body_spelling e ∙ sym t.spelling),
   (λ e.

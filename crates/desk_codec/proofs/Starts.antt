@@ -1,11 +1,8 @@
 -- What a packet begins with.
-use Rattle.std.proofs.Common.{◌≡◌, ℕ, ◌+◌, ◌-◌, ◌^◌, ◌≤◌, ◌<◌, Bool, true, false, cond, ltb}
-use Rattle.std.proofs.Common.{List, [], ◌∷◌}
-use Rattle.std.proofs.Common.{◌++◌, length, take, drop, Some, refl, sym, ap, subst, ◌∙◌, append_assoc}
-use Rattle.std.proofs.Common.{append-nil, arith}
-use Rattle.std.specs.Prelude.{Result, Ok, Err}
+use Rattle.std.proofs.Common.{◌≡◌, ℕ, ◌+◌, ◌-◌, ◌^◌, ◌≤◌, ◌<◌, Bool, true, false, cond, ltb, List, [], ◌∷◌, ◌++◌}
+use Rattle.std.proofs.Common.{length, take, drop, Some, refl, sym, ap, subst, ◌∙◌, append_assoc, append-nil, arith}
+use Rattle.std.specs.Prelude.{Result, Ok, Err, nat_le, ◌&&◌}
 use Rattle.std.specs.List.{flat_map, list_any}
-use Rattle.std.specs.Prelude.{nat_le, ◌&&◌}
 use Rattle.std.specs.Int.{Width, w32, w64, byte_len, from_be_bytes, to_be_bytes}
 use Rattle.std.proofs.lemmas.Bool.{le-ltb, and_from}
 use Rattle.std.proofs.lemmas.Bool.Decides.{nat_tests}
@@ -30,15 +27,13 @@ use Rattle.desk_codec.specs.declared.start.PacketHead.{PacketHead}
 use Rattle.desk_codec.specs.declared.start.PacketStart.{PacketStart}
 use Rattle.desk_codec.specs.Fronts.{FrontReader, ◌>>=◌, front_byte, front_number, front_long, front_checked}
 use Rattle.desk_codec.specs.Fronts.{front_maybe}
-use Rattle.desk_codec.specs.Starts.{front_head, front_start, front_first_number, front_second_number}
-use Rattle.desk_codec.specs.Starts.{front_entry_count, start_with}
-use Rattle.desk_codec.specs.Starts.{has_first_number, has_second_number, has_entry_count, lone_entries}
-use Rattle.desk_codec.specs.Starts.{is_first_number, is_entry_count, if_there, head_spelling}
-use Rattle.desk_codec.specs.Starts.{start_spelling, start_of, start_in, tells_new_place, NoStart, FrontStart, FitsKind}
+use Rattle.desk_codec.specs.Starts.{front_head, front_start, front_first_number, front_second_number, front_entry_count}
+use Rattle.desk_codec.specs.Starts.{start_with, has_first_number, has_second_number, has_entry_count, lone_entries}
+use Rattle.desk_codec.specs.Starts.{is_first_number, is_entry_count, if_there, head_spelling, start_spelling, start_of}
+use Rattle.desk_codec.specs.Starts.{start_in, tells_new_place, NoStart, FrontStart, FitsKind}
 use Rattle.desk_codec.proofs.Versions.{one_announced, two_announced, state_announced}
 use Rattle.desk_codec.proofs.Fronts.{IsFront, then_is_front, test_is_front, checked_is_front, maybe_is_front}
-use Rattle.desk_codec.proofs.Fronts.{byte_is_front, number_is_front}
-use Rattle.desk_codec.proofs.Fronts.{bind_ok, wide_ok, same_ok, found_as}
+use Rattle.desk_codec.proofs.Fronts.{byte_is_front, number_is_front, bind_ok, wide_ok, same_ok, found_as}
 
 -- they are fronts
 

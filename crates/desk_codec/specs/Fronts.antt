@@ -1,7 +1,6 @@
 -- Reading bytes that are still coming: what they begin with and the bytes after it, or that more are needed, or that
 -- nothing begins so.
-use Rattle.std.specs.Prelude.{◌≡◌, ℕ, Bool, List, [], ◌∷◌, length, take, drop, nat_lt, if◌then◌else◌}
-use Rattle.std.specs.Prelude.{Result, Ok, Err}
+use Rattle.std.specs.Prelude.{◌≡◌, ℕ, Bool, List, [], ◌∷◌, length, take, drop, nat_lt, if◌then◌else◌, Result, Ok, Err}
 use Rattle.std.specs.Int.{Width, w64, byte_len, from_be_bytes}
 use Rattle.desk_codec.specs.declared.fault.Lack.{Lack}
 use Rattle.desk_codec.specs.declared.fault.Lack.TheVariants.{Needs, NoSpelling}

@@ -134,17 +134,9 @@ pub record SpellsFrame (m : Message) (bytes : List ℕ) : Type 0 where
   pub fits : FitsMessage m
   pub spelling : bytes ≡ frame_spelling m
 
--- A command has one spelling, and bytes spell one command.
-abbrev pub BodiesAreOne : Type 0
-BodiesAreOne = (c d : Command) (x y : List ℕ) → SpellsBody c x → SpellsBody d y → (c ≡ d → x ≡ y) × (x ≡ y → c ≡ d)
-
--- An entry has one spelling, and bytes spell one entry.
-abbrev pub EntriesAreOne : Type 0
-EntriesAreOne = (e f : Entry) (x y : List ℕ) → SpellsEntry e x → SpellsEntry f y → (e ≡ f → x ≡ y) × (x ≡ y → e ≡ f)
-
--- A packet has one frame, and bytes are the frame of one packet.
-abbrev pub FramesAreOne : Type 0
-FramesAreOne = (m n : Message) (x y : List ℕ) → SpellsFrame m x → SpellsFrame n y → (m ≡ n → x ≡ y) × (x ≡ y → m ≡ n)
+-- A value has one spelling, and bytes spell one value.
+abbrev pub AreOne : {A : Type 0} → (A → List ℕ → Type 0) → Type 0
+AreOne {A = A} Spells = (a b : A) (x y : List ℕ) → Spells a x → Spells b y → (a ≡ b → x ≡ y) × (x ≡ y → a ≡ b)
 
 -- No entry's spelling begins another's.
 abbrev pub EntriesBeginNone : Type 0

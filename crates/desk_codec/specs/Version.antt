@@ -1,8 +1,7 @@
 -- The version of a packet.
-use Rattle.std.specs.Prelude.{◌==◌, ◌||◌, ◌+◌, ℕ, Bool, true, false, List, [], ◌∷◌, length, get_or, nat_lt, nat_le}
+use Rattle.std.specs.Prelude.{◌==◌, ◌||◌, ◌+◌, ℕ, Bool, true, false, List, [], ◌∷◌, length, nat_lt, nat_le}
 use Rattle.std.specs.Prelude.{if◌then◌else◌}
 use Rattle.std.specs.List.{list_any}
-use Rattle.desk_types.specs.Numbers.{verb_number}
 use Rattle.desk_types.specs.declared.command.Command.{Command}
 use Rattle.desk_types.specs.declared.command.Command.TheVariants.{StandBy, StandDown, Replace}
 use Rattle.desk_types.specs.declared.command.Entry.{Entry}
@@ -10,7 +9,6 @@ use Rattle.desk_types.specs.declared.limits.TheConstants.{FIRST_LOG_ENTRIES, LOG
 use Rattle.desk_types.specs.declared.packet.Message.{Message}
 use Rattle.desk_types.specs.declared.packet.Message.TheVariants.{Prepare, PrepareOk, Commit, StartViewChange}
 use Rattle.desk_types.specs.declared.packet.Message.TheVariants.{DoViewChange, StartView, GetState, NewState}
-use Rattle.desk_types.specs.declared.verb.Verb.TheVariants as verbs
 
 -- whether a command is of a verb that came with version 2
 abbrev pub is_new_verb : Command → Bool
@@ -22,12 +20,6 @@ is_new_verb _ = false
 -- whether an entry has such a command
 abbrev pub is_new_entry : Entry → Bool
 is_new_entry e = is_new_verb e.command
-
--- whether a body with these bytes is of such a verb, by its first byte
-abbrev pub is_new_body : List ℕ → Bool
-is_new_body body =
-    (get_or body 0 0 == verb_number verbs.StandBy) || (get_or body 0 0 == verb_number verbs.StandDown)
-    || (get_or body 0 0 == verb_number verbs.Replace)
 
 -- the entries that a message carries
 abbrev pub entries_of : Message → List Entry

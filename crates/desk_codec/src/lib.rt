@@ -25,10 +25,7 @@ pub use fault::{FrameFault, Lack};
 pub use packet::{get_packet, packet_of};
 pub use put::{put_body, put_entry, put_packet};
 pub use start::{PacketHead, PacketStart, front_start};
-pub use version::{
-    has_new_verb, is_any_new, is_new_body, is_new_place, is_one_new, is_place_in, is_version,
-    version_by,
-};
+pub use version::has_new_verb;
 
 /// The bytes that every packet begins with: the version, the kind, the node that it is from, and the view.
 pub const HEAD_BYTES: usize = 11;

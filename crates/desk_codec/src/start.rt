@@ -4,9 +4,8 @@ ghost use Rattle.std.specs.Prelude.{◌≡◌, ◌||◌};
 ghost use Rattle.std.specs.Int.{w32};
 ghost use Rattle.desk_codec.specs.Fronts.{GivesFront};
 ghost use Rattle.desk_codec.specs.Starts.{has_first_number, has_second_number, has_entry_count, lone_entries};
-ghost use Rattle.desk_codec.specs.Starts.{is_first_number, is_entry_count, tells_new_place};
-ghost use Rattle.desk_codec.specs.Starts.{front_head, front_start, front_first_number, front_second_number};
-ghost use Rattle.desk_codec.specs.Starts.{front_entry_count, FrontStart};
+ghost use Rattle.desk_codec.specs.Starts.{is_first_number, is_entry_count, tells_new_place, front_head, front_start};
+ghost use Rattle.desk_codec.specs.Starts.{front_first_number, front_second_number, front_entry_count, FrontStart};
 
 use crate::fault::Lack;
 use crate::front::{front_byte, front_u32, front_u64};

@@ -2,14 +2,14 @@
 
 ghost use Rattle.std.specs.Prelude.{◌≡◌, ◌+◌, ◌∷◌, []};
 ghost use Rattle.std.specs.List.{list_any};
-ghost use Rattle.desk_codec.specs.Version.{is_new_verb, is_new_entry, entries_of, is_new_body, is_new_place, places_of};
+ghost use Rattle.desk_codec.specs.Version.{is_new_verb, is_new_entry, entries_of, is_new_place, places_of};
 ghost use Rattle.desk_codec.specs.Version.{most_in, is_place_in, needs_two, version_by, version_of, is_version};
 
 use desk_types::limits::{FIRST_LOG_ENTRIES, LOG_ENTRIES};
-use desk_types::{Command, Entry, Message, Verb};
+use desk_types::{Command, Entry, Message};
 
 /// Whether a packet can have this version.
-pub fn is_version(version: u8) -> bool
+pub(crate) fn is_version(version: u8) -> bool
     ensures { result ≡ is_version version }
 {
     version == 1 || version == 2
@@ -24,20 +24,6 @@ fn is_new_verb(command: &Command) -> bool
         Command::StandDown { .. } => true,
         Command::Replace { .. } => true,
         _ => false,
-    }
-}
-
-/// Whether a body with these bytes is of such a verb, by its first byte.
-pub fn is_new_body(body: &[u8]) -> bool
-    ensures { result ≡ is_new_body body.now }
-{
-    match body.first() {
-        Some(verb) => {
-            *verb == Verb::StandBy.number()
-                || *verb == Verb::StandDown.number()
-                || *verb == Verb::Replace.number()
-        }
-        None => false,
     }
 }
 
@@ -73,28 +59,28 @@ fn most_in(version: u8) -> u64
 }
 
 /// Whether a place, a commit, a base or a count is within the range of a packet of this version.
-pub fn is_place_in(version: u8, place: u64) -> bool
+pub(crate) fn is_place_in(version: u8, place: u64) -> bool
     ensures { result ≡ is_place_in version place }
 {
     place <= most_in(version)
 }
 
 /// Whether a place is past the logs of version 1.
-pub fn is_new_place(place: u64) -> bool
+pub(crate) fn is_new_place(place: u64) -> bool
     ensures { result ≡ is_new_place place }
 {
     place > FIRST_LOG_ENTRIES
 }
 
 /// Whether one of two places is past the logs of version 1.
-pub fn is_one_new(place: u64, other: u64) -> bool
+pub(crate) fn is_one_new(place: u64, other: u64) -> bool
     ensures { result ≡ list_any is_new_place (place ∷ other ∷ []) }
 {
     is_new_place(place) || is_new_place(other)
 }
 
 /// Whether a base, a commit or a count is past the logs of version 1, or the base and the count together are.
-pub fn is_any_new(base: u64, commit: u64, count: u64) -> bool
+pub(crate) fn is_any_new(base: u64, commit: u64, count: u64) -> bool
     ensures { result ≡ list_any is_new_place (base ∷ commit ∷ count ∷ (base + count) ∷ []) }
 {
     if is_new_place(base) || is_new_place(commit) || is_new_place(count) {
@@ -134,7 +120,7 @@ fn needs_two(message: &Message) -> bool
 }
 
 /// The version of a packet, by whether it needs version 2.
-pub fn version_by(needs_two: bool) -> u8
+pub(crate) fn version_by(needs_two: bool) -> u8
     ensures { result ≡ version_by needs_two }
 {
     if needs_two { 2 } else { 1 }

@@ -15,7 +15,7 @@ use Rattle.desk_codec.proofs.Starts.{start_is_front}
 use Rattle.desk_frames.specs.declared.cutter.TheConstants.{ROOM_BYTES}
 use Rattle.desk_frames.specs.declared.frame.FrameStage.{FrameStage}
 use Rattle.desk_frames.specs.declared.frame.FrameStage.TheVariants as stages
-use Rattle.desk_frames.specs.Frame.{FrameState, Stands, position, Moved, IsAwaited, IsFront, PreservedAt}
+use Rattle.desk_frames.specs.Frame.{FrameState, Stands, position, Moved, IsFront, PreservedAt}
 use Rattle.desk_frames.specs.Frame.{PreservedAll, PreservedWith}
 use Rattle.desk_frames.specs.Frame.{SoFar, GoesOn, HasCut, StillPreserved, Awaits, front_entries, in_frame}
 use Rattle.desk_frames.specs.Stream.{Standing, Open, Doomed, Holds, Came, frames_spelling}
@@ -85,16 +85,6 @@ goes_goes f g k ms ns os x y a b old es done s =
 
 pub goes_nowhere : (f : FrameState) (ms : List Message) → GoesOn f ms [] f ms
 goes_nowhere f ms old es done s = subst (λ (d : List ℕ). SoFar old es d ms f) (sym (append-nil done)) s
-
-still_front : (es : List Entry) (ms : List Message) (f : FrameState) → IsAwaited f.stage → PreservedAll es ms f →
-    IsFront es (front_entries ms f.entries)
-still_front es [] f a k = k a
-still_front es (m ∷ ms) f a k = k
-
--- memory was refused before anything changed
-pub still_same : (f g : FrameState) (ms ns : List Message) → IsAwaited f.stage → g ≡ f → ns ≡ ms →
-    StillPreserved f ms g ns
-still_same f g ms ns a e d old es done s = rw (e, d) (still_front es ms f a s.keeps)
 
 -- memory was refused for the packet, and its entries were taken back
 pub still_back : (f g h : FrameState) (ms ns : List Message) (m : Message) →
@@ -195,10 +185,6 @@ ok_joined (Ok left) waited piece field beyond room n f g k ms ns os goes whole r
 ok_joined (Err e) waited piece field beyond room n f g k ms ns os goes whole rest cut = tt
 
 -- from the field that waited to the one that waits
-
-nil_of : (x : List ℕ) → length x ≡ 0 → x ≡ []
-nil_of [] n = refl
-nil_of (b ∷ x) n = absurd (omega (arith, n))
 
 -- what waits stands after what was taken
 waiting_apart : (f : FrameState) (x bytes : List ℕ) → Stands f.stage f.entries → Awaits f.stage x →

@@ -1,5 +1,5 @@
 -- What was read of a stream, and what came of it.
-use Rattle.std.proofs.Common.{◌≡◌, ◌≢◌, ◌⊎◌, inl, inr, ℕ, ◌+◌, ◌-◌, ◌<◌, List, [], ◌∷◌, ◌++◌, Option, Some, None, Ok}
+use Rattle.std.proofs.Common.{◌≡◌, ◌≢◌, ◌⊎◌, inl, inr, ℕ, ◌+◌, ◌-◌, ◌<◌, List, [], ◌∷◌, ◌++◌, Option, Some, Ok}
 use Rattle.std.proofs.Common.{Err, refl, sym, ap, subst, ◌∙◌, append_assoc, append-nil, arith}
 use Rattle.std.proofs.iter.Next.{Yields-more}
 use Rattle.std.proofs.lemmas.List.Concat.{flat_map-append}
@@ -7,7 +7,7 @@ use Rattle.std.proofs.KnownBytes.{Consumes-trans, Consumes-nil, Consumes-kept}
 use Rattle.std.specs.Iterator.{Yields}
 use Rattle.std.specs.Vec.Iter.{into_iter_items, into_iter_steps}
 use Rattle.std.specs.declared.vec.IntoIter.{IntoIter}
-use Rattle.std.specs.Io.KnownBytes.{Consumes, IsAtEnd}
+use Rattle.std.specs.Io.KnownBytes.{Consumes}
 use Rattle.desk_types.specs.declared.limits.TheConstants.{STREAM_READS}
 use Rattle.desk_types.specs.declared.packet.Message.{Message}
 use Rattle.desk_types.specs.declared.refusal.Refusal.{Refusal}
@@ -92,13 +92,6 @@ end_gives_none (Open []) ms e = cc
 end_gives_none (Open (b ∷ rest)) ms e = cc
 end_gives_none (Doomed left) ms e = cc
 
--- a stream ends where no frame is begun
-end_is_whole : (s : Standing) (rest : List ℕ) → Holds s rest → Ok None ≡ end_answer s → rest ≡ []
-end_is_whole Stopped rest h e = absurd (let no : ⊥ = cc in no)
-end_is_whole (Open []) rest h e = h.0
-end_is_whole (Open (b ∷ more)) rest h e = absurd (let no : ⊥ = cc in no)
-end_is_whole (Doomed left) rest h e = absurd (let no : ⊥ = cc in no)
-
 -- a fault is told at the end only where no frame begins the rest
 end_begins_none : (s : Standing) (rest : List ℕ) → Holds s rest → Err refusals.FrameFault ≡ end_answer s →
     BeginsNone rest
@@ -138,14 +131,6 @@ module _ (left after : Option (List ℕ)) (old new : ReaderState) (rest : List �
       (more.0, record { piece = piece; taken = taken; fit = fed.0.2.0; parts = more.1 }, more.2, fed.1)
   come_packets ms (inr (inl h)) = absurd (end_gives_none old.standing ms h.0)
   come_packets ms (inr (inr h)) = absurd (let e = h.0 in let no : ⊥ = cc in no)
-
-  -- the end
-  pub come_end : ReadOnce left after old (Ok None) new → HasCome left after rest [] [] × IsAtEnd after
-  come_end (inl (piece, some, taken, fed)) = absurd fed
-  come_end (inr (inl h)) =
-      let none = end_is_whole old.standing rest holds h.0 in
-      (subst (HasCome left after rest []) none (come_nothing left after rest h.1), h.2)
-  come_end (inr (inr h)) = absurd (let e = h.0 in let no : ⊥ = cc in no)
 
   -- a fault
   pub come_refused : PacketsFit → (r : Refusal) → ReadOnce left after old (Err r) new → IsReadRefused left after rest r

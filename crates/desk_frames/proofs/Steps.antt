@@ -33,7 +33,6 @@ use Rattle.desk_frames.specs.Frame.{Awaits, Covers, stage_after_length}
 use Rattle.desk_frames.specs.Stream.{Standing, Open, Doomed, Stopped, Holds, BeginsNone, announced_length, IsPartial}
 use Rattle.desk_frames.proofs.Cuttings.{bad_longer}
 use Rattle.desk_frames.proofs.FirstFrames.{announced_is, bad_length}
-use Rattle.desk_frames.proofs.Keeping.{front_self}
 
 announced_back : (announced : ℕ) (b : List ℕ) → announced ≤ FRAME_BYTES →
     announced_length (in_frame announced b) ≡ announced
@@ -77,17 +76,6 @@ partial_at announced b x range lt =
 module _ (announced left : ℕ) (f : PacketStart) (es : List Entry) (more : ℕ) (o : IsOpen announced left f es more) where
   abbrev b : List ℕ
   b = begun f es
-
-  -- another entry comes
-  pub goes_open : 0 < more → 0 < left → AfterPart announced f es None (stages.Entries announced left f more) es
-  goes_open some lt = record {
-    arrives = (
-      sym (append-nil (in_frame announced b)),
-      partial_at announced b [] o.range (omega (arith, o.sum, lt)),
-    );
-    stands = (o, some, lt);
-    keeps = λ a. front_self es;
-  }
 
   -- bytes of an entry that begins no packet
   pub none_begins : (x : List ℕ) → 0 < more → BeginsNoEntry f.head.version (take left x) →

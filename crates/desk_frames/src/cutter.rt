@@ -3,8 +3,7 @@
 ghost use Rattle.std.specs.Prelude.{◌≡◌, ◌≤◌, ◌<◌, ◌+◌, ◌++◌, ◌↔◌, [], Some, IfOk, OnOk, OnErr, IsTrue, length};
 ghost use Rattle.std.specs.Prelude.{take, drop};
 ghost use Rattle.desk_frames.specs.declared.cutter.TheConstants.{ROOM_BYTES};
-ghost use Rattle.desk_frames.specs.Frame.{HasTaken, HasCut, StillPreserved, Stands, Awaits};
-ghost use Rattle.desk_frames.specs.Frame.{front_entries};
+ghost use Rattle.desk_frames.specs.Frame.{HasTaken, HasCut, StillPreserved, Stands, Awaits, front_entries};
 ghost use Rattle.desk_frames.specs.Reading.{listed, end_answer};
 ghost use Rattle.desk_frames.specs.Stream.{Open, Stopped, Came, Fed, viewed};
 

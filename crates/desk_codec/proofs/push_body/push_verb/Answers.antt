@@ -5,8 +5,7 @@ use Rattle.desk_types.specs.Numbers.{verb_number}
 use Rattle.desk_codec.specs.Ranges.{FitsSeconds}
 use Rattle.desk_codec.specs.Spelling.{seconds}
 use Rattle.desk_codec.proofs.Growing.{put_after}
-use Rattle.desk_codec.proofs.Putting.{put_same, fits_seconds, fits_yet, grows_later}
-use Rattle.desk_codec.proofs.Putting.{was_refused, holds_refused}
+use Rattle.desk_codec.proofs.Putting.{put_same, fits_seconds, fits_yet, grows_later, was_refused, holds_refused}
 use Rattle.desk_codec.proofs.push_body.push_verb.Goals as goal
 
 pub returns-clause-spelling : goal.returns-clause-spelling

@@ -1,8 +1,7 @@
 use Rattle.std.proofs.Common.{◌++◌, ap, subst, ◌∙◌}
 use Rattle.desk_types.specs.NumberRange.{FitsNumber}
 use Rattle.desk_codec.specs.Spelling.{long, sized, body_spelling, entry_spelling}
-use Rattle.desk_codec.proofs.Putting.{put_third, fits_entry, grows_later}
-use Rattle.desk_codec.proofs.Putting.{grows_after, was_refused, holds_refused}
+use Rattle.desk_codec.proofs.Putting.{put_third, fits_entry, grows_later, grows_after, was_refused, holds_refused}
 use Rattle.desk_codec.proofs.push_packet.push_entry.Goals as goal
 
 pub returns : goal.returns

@@ -1,7 +1,6 @@
 use Rattle.desk_codec.specs.Ranges.{FitsNode}
 use Rattle.desk_codec.specs.Spelling.{head, long}
-use Rattle.desk_codec.proofs.Putting.{put_third, fits_yet, grows_later}
-use Rattle.desk_codec.proofs.Putting.{grows_after, was_refused, holds_refused}
+use Rattle.desk_codec.proofs.Putting.{put_third, fits_yet, grows_later, grows_after, was_refused, holds_refused}
 use Rattle.desk_codec.proofs.push_packet.push_numbers.Goals as goal
 
 pub returns : goal.returns
