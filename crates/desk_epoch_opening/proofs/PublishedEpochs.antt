@@ -1,6 +1,6 @@
 -- What is noted and published as epochs are opened.
 use Rattle.std.proofs.Common.{◌≡◌, ◌≤◌, ◌+◌, ◌++◌, ◌∙◌, ℕ, List, [], ◌∷◌, length, take, refl, sym, ap, subst, arith}
-use Rattle.std.proofs.Common.{append-nil, length-append, suc, true}
+use Rattle.std.proofs.Common.{append-nil, append_assoc, length-append, drop, take-append-drop, suc, true}
 use mathlib.Core.List.{IsPrefix}
 use Rattle.desk_types.specs.declared.command.Entry.{Entry}
 use Rattle.desk_log.specs.SavedValue.{SavedValue}
@@ -35,6 +35,15 @@ all_noted base noted now shown entries count begins held whole =
     let same : shown ≡ now =
     no_rest shown held.0 now held.1 (omega (arith, ap length within.1, length-append now within.0, ap length whole)) in
     (sym same ∙ whole ∙ ap (λ front. front ++ entries) (sym (all_first base noted count)), same)
+
+-- a part of the rest is noted after what was
+pub part_more : (n : ℕ) (noted rest part after now all : List Entry) → part ≡ take n rest → after ≡ drop n rest →
+    now ≡ noted ++ part → noted ++ rest ≡ all → now ++ after ≡ all
+part_more n noted rest part after now all front back is before =
+    ap (λ (list : List Entry). list ++ after) is ∙ append_assoc noted part after
+    ∙ ap (λ (list : List Entry). noted ++ (list ++ after)) front
+    ∙ ap (λ (list : List Entry). noted ++ (take n rest ++ list)) back
+    ∙ ap (λ (list : List Entry). noted ++ list) (take-append-drop n rest) ∙ before
 
 -- the past is the first of what is published after it
 pub past_first : (p : PastValue) (past cut now : List Entry) → StandFor past p → now ≡ past ++ cut →

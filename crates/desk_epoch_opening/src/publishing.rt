@@ -10,10 +10,50 @@ ghost use Rattle.desk_published.specs.Writer.{followed_by, published};
 
 use desk_epoch_stores::{EpochStores, OpenedEpoch};
 use desk_published::{BoardName, BoardWriter};
-use desk_types::Refusal;
 use desk_types::limits::LAST_PLACE;
+use desk_types::{Entry, Refusal};
 use std::alloc::Global;
 use std::sync::Wait;
+
+/// How many entries are published at once. A writer never gives back the room that one publish took.
+const PART_ENTRIES: usize = 4_096;
+
+/// Publishes entries after all that the writer has noted. True where there was memory to publish all of them.
+fn publish_part<B: BoardName, R: Wait>(
+    rt: &R,
+    writer: BoardWriter<B>,
+    entries: &[Entry],
+) -> (BoardWriter<B>, bool)
+    ensures noted { result.1 ≡ true → result.0.noted ≡ writer.noted ++ entries.now }
+    ensures shown { result.1 ≡ true → published result.0.inner ≡ result.0.noted }
+{
+    let base = writer.noted_len();
+    writer.publish_after(rt, base, entries, true)
+}
+
+/// Publishes entries after all that the writer has noted, in parts of `PART_ENTRIES`. True where there was memory to
+/// publish all of them.
+fn publish_parts<B: BoardName, R: Wait>(
+    rt: &R,
+    writer: BoardWriter<B>,
+    entries: &[Entry],
+) -> (BoardWriter<B>, bool)
+    ensures noted { result.1 ≡ true → result.0.noted ≡ writer.noted ++ entries.now }
+    ensures shown { result.1 ≡ true → published result.0.inner ≡ result.0.noted }
+{
+    let mut writer = writer;
+    let mut rest = entries;
+    'parts: while rest.len() > PART_ENTRIES {
+        let (part, after) = rest.split_at(PART_ENTRIES);
+        let (back, is_shown) = publish_part(rt, writer, part);
+        writer = back;
+        if !is_shown {
+            return (writer, false);
+        }
+        rest = after;
+    }
+    publish_part(rt, writer, rest)
+}
 
 /// Publishes what is committed of an epoch, where the writer has noted the logs before it and no more. True where there
 /// was memory to publish all of it.
@@ -27,7 +67,7 @@ fn publish_epoch<B: BoardName, T: EpochStores, R: Wait>(
         result.0.noted ≡ writer.noted ++ saved_cut opened.now.most opened.now.saved }
     ensures shown { result.1 ≡ true → published result.0.inner ≡ result.0.noted }
 {
-    writer.publish_after(rt, opened.base(), opened.committed(), true)
+    publish_parts(rt, writer, opened.committed())
 }
 
 /// Opens a node's epochs from the first on, up to the first that is not over, and publishes what is committed of each.

@@ -1,6 +1,7 @@
 -- What an item makes of a member.
 use Rattle.std.specs.Prelude.{◌≡◌, ℕ, Bool, true, false, not, ◌&&◌, ◌||◌, ◌==◌, if◌then◌else◌, List, map}
 use Rattle.std.specs.Prelude.{Option, Some, None}
+use Rattle.std.specs.List.{list_any}
 use Rattle.desk_types.specs.declared.command.Entry.{Entry}
 use Rattle.desk_types.specs.declared.epoch_packet.Purpose.{Purpose}
 use Rattle.desk_types.specs.declared.epoch_packet.Purpose.TheVariants as purposes
@@ -37,15 +38,23 @@ is_tell purpose = false
 abbrev pub event_of_tick : Bool → EpochEvent
 event_of_tick late = if late then comes.Suspect else comes.Resend
 
--- whether a member that heard these tokens has not heard the node that is named, where one is
-abbrev pub names_unheard : List HeardToken → Option Replacement → Bool
-names_unheard heard None = false
-names_unheard heard (Some r) = not (hears heard r.node r.token)
+-- whether one of these replacements names the token, for any number
+abbrev pub is_token_named : ℕ → List Replacement → Bool
+is_token_named token rs = list_any (λ r. r.token == token) rs
+
+-- whether a member has heard the node that is named, and past logs did not name its token before
+abbrev pub hears_new : MemberValue → Replacement → Bool
+hears_new m r = hears m.heard r.node r.token && not (is_token_named r.token m.node.past.replacements)
+
+-- whether a node is named that the member has not heard, or whose token was named before
+abbrev pub names_unheard : MemberValue → Option Replacement → Bool
+names_unheard m None = false
+names_unheard m (Some r) = not (hears_new m r)
 
 -- Whether a request for a replacement is refused: the node, whose past logs are these entries, would put it last as a
--- new one, and who is named was not heard.
+-- new one, and who is named was not heard as a new node.
 abbrev pub refuses_replacement : List Entry → MemberValue → Entry → Bool
-refuses_replacement past m entry = names_unheard m.heard (named_by entry) && appends past m.node entry
+refuses_replacement past m entry = names_unheard m (named_by entry) && appends past m.node entry
 
 -- What an item asks of the node, whose past logs are these entries. A log that it is told is dropped where the member
 -- takes none.

@@ -11,7 +11,7 @@ ghost use Rattle.desk_epoch_node.specs.Does.{DoesDeed};
 ghost use Rattle.desk_epoch_replica.specs.declared.item.EpochItem.TheVariants as items;
 ghost use Rattle.desk_epoch_replica.specs.Follows.{EpochFollows};
 ghost use Rattle.desk_epoch_replica.specs.Items.{MemberMeets, begins_epoch, hears_primary, is_tell};
-ghost use Rattle.desk_epoch_replica.specs.Items.{refuses_replacement};
+ghost use Rattle.desk_epoch_replica.specs.Items.{hears_new, is_token_named, refuses_replacement};
 ghost use Rattle.desk_epoch_replica.specs.Steps.{reported_log};
 
 use crate::epoch_member::EpochMember;
@@ -19,7 +19,7 @@ use crate::heard::{age_rows, asker, hears, note_asker};
 use crate::item::EpochItem;
 use crate::limits::ASK_TICKS;
 use crate::ticking::{one_more, tick_event, tick_rows};
-use desk_epoch_node::{EpochEvent, EpochStep, named_by};
+use desk_epoch_node::{EpochEvent, EpochStep, Replacement, named_by};
 use desk_types::limits::SUSPECT_TICKS;
 use desk_types::{Entry, EpochPacket, Purpose, Refusal, WantOfMemory};
 
@@ -51,6 +51,15 @@ fn begins_epoch(made: &EpochStep) -> bool
         EpochStep::Began { .. } => true,
         _ => false,
     }
+}
+
+/// Whether one of these replacements names the token, for any number.
+fn is_token_named(replacements: &[Replacement], token: u64) -> bool
+    ensures { result ≡ is_token_named token replacements.now }
+{
+    replacements
+        .iter()
+        .any(|replacement| replacement.token == token)
 }
 
 /// The refusal of a request that names a node which was not heard.
@@ -111,15 +120,23 @@ impl EpochMember {
         }
     }
 
-    /// Whether a request for a replacement is refused: the node would put it last, and has not heard who is named.
+    /// Whether the node that is named was heard, and past logs did not name its token before: a node that was replaced
+    /// never acts again, though it may have been heard a moment ago.
+    fn hears_new(&self, named: &Replacement) -> bool
+        ensures { result ≡ hears_new self.now named.now }
+    {
+        hears(&self.heard, named.node, named.token)
+            && !is_token_named(self.node.past().replacements(), named.token)
+    }
+
+    /// Whether a request for a replacement is refused: the node would put it last, and has not heard who is named, or
+    /// past logs named that token before.
     fn refuses_replacement(&self, entry: &Entry) -> bool
         ensures { (past : List AnEntry) → StandFor past self.now.node.past →
             result ≡ refuses_replacement past self.now entry.now }
     {
         match named_by(entry) {
-            Some(named) => {
-                !hears(&self.heard, named.node, named.token) && self.node.appends(entry)
-            }
+            Some(named) => !self.hears_new(&named) && self.node.appends(entry),
             None => false,
         }
     }

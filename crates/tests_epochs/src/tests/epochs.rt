@@ -46,12 +46,12 @@ pub fn entry(alloc: Global, client: u64, number: u64) -> Option<Entry> {
     entry_of(alloc, bytes.as_slice())
 }
 
-/// The request 1 of client 7, which names the token for a node.
-fn replacement(alloc: Global, node: u8) -> Option<Entry> {
+/// The request 1 of a client, which names a token for a node.
+fn replacement(alloc: Global, client: u64, node: u8, token: u64) -> Option<Entry> {
     let mut bytes = Vec::new(alloc);
-    put_request(&mut bytes, 7, 1, REPLACE).ok()?;
+    put_request(&mut bytes, client, 1, REPLACE).ok()?;
     bytes.push(node).ok()?;
-    bytes.extend_from_slice(&TOKEN.to_be_bytes()).ok()?;
+    bytes.extend_from_slice(&token.to_be_bytes()).ok()?;
     entry_of(alloc, bytes.as_slice())
 }
 
@@ -71,6 +71,8 @@ pub enum Comes {
     Request(u64, u64),
     /// The request 1 of client 7, which names the token for a node.
     Replace(u8),
+    /// The request 1 of a client, which names a token for a node.
+    ReplaceAs(u64, u8, u64),
     /// A PrepareOk of node 1 of an epoch, for a place of view 0.
     PrepareOk(u64, u64),
     /// Node 1 asks for what stands after a place of an epoch.
@@ -139,14 +141,17 @@ fn asked(epoch: u64, view: u64, base: u64) -> Option<EpochEvent> {
 
 fn replaced(alloc: Global, node: u8) -> Option<EpochEvent> {
     let mut entries = Items::new(alloc);
-    entries.push(replacement(alloc, node)?).ok()?;
+    entries.push(replacement(alloc, 7, node, TOKEN)?).ok()?;
     reported(0, 0, 1, entries)
 }
 
 pub fn event(alloc: Global, comes: Comes) -> Option<EpochEvent> {
     match comes {
         Comes::Request(client, number) => Some(EpochEvent::Request(entry(alloc, client, number)?)),
-        Comes::Replace(node) => Some(EpochEvent::Request(replacement(alloc, node)?)),
+        Comes::Replace(node) => Some(EpochEvent::Request(replacement(alloc, 7, node, TOKEN)?)),
+        Comes::ReplaceAs(client, node, token) => {
+            Some(EpochEvent::Request(replacement(alloc, client, node, token)?))
+        }
         Comes::PrepareOk(epoch, place) => {
             let (from, view) = (1, 0);
             sent(

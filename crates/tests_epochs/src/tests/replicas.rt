@@ -355,6 +355,34 @@ const HEARS_ANOTHER_TOKEN: &[Row] = &[
     (Asked::Meet(Comes::Request(7, 1)), ("own", 0)),
 ];
 
+/// A token that was named before is refused, though it was said a moment ago.
+const NAMED_BEFORE: &[Row] = &[
+    (Asked::Meet(Comes::AskAs(0, TOKEN)), ("nothing", 0)),
+    (Asked::Meet(Comes::Replace(1)), ("own", 0)),
+    (Asked::Meet(Comes::PrepareOk(0, 1)), ("own", 0)),
+    (Asked::Prepare, ("ready", 0)),
+    (Asked::Begin, ("began", 1)),
+    (
+        Asked::Meet(Comes::ReplaceAs(8, 1, TOKEN)),
+        ("refused", MEMBER_UNHEARD),
+    ),
+    (Asked::Meet(Comes::AskAs(1, TOKEN + 1)), ("nothing", 0)),
+    (Asked::Meet(Comes::ReplaceAs(8, 1, TOKEN + 1)), ("own", 1)),
+];
+
+/// So is one that was named for another node.
+const NAMED_FOR_ANOTHER: &[Row] = &[
+    (Asked::Prepare, ("ready", 0)),
+    (Asked::Meet(Comes::TellReplace(2)), ("began", 1)),
+    (Asked::Meet(Comes::AskAs(1, TOKEN)), ("nothing", 0)),
+    (
+        Asked::Meet(Comes::ReplaceAs(8, 1, TOKEN)),
+        ("refused", MEMBER_UNHEARD),
+    ),
+    (Asked::Meet(Comes::AskAs(1, TOKEN + 1)), ("nothing", 0)),
+    (Asked::Meet(Comes::ReplaceAs(8, 1, TOKEN + 1)), ("own", 1)),
+];
+
 /// The epoch whose store fails, the node's token, and what is done.
 const RUNS: &[(u64, u64, &[Row])] = &[
     (NONE, 0, GOES_OVER),
@@ -368,6 +396,8 @@ const RUNS: &[(u64, u64, &[Row])] = &[
     (NONE, 0, HEARS),
     (NONE, 0, HEARD_TOO_LONG_AGO),
     (NONE, 0, HEARS_ANOTHER_TOKEN),
+    (NONE, 0, NAMED_BEFORE),
+    (NONE, 0, NAMED_FOR_ANOTHER),
 ];
 
 /// The first run, counted from 1, that does not come true, with its first row that does not.
