@@ -1,5 +1,5 @@
 -- Each line makes a file that can't be used from one with a saved state of node 1 of 3, and where it drops the three
--- tables first, from a new one too; behind the bar stands why, as it is told.
+-- tables first, from a new one too; after the bar stands why, as it is printed.
 DROP TABLE node; DROP TABLE entry; DROP TABLE client; CREATE VIEW entry AS SELECT 1|can not be read or written, or a view, an index or a foreign key in it names node, entry or client
 DROP TABLE node; DROP TABLE entry; DROP TABLE client; CREATE VIEW client AS SELECT 1|can not be read or written, or a view, an index or a foreign key in it names node, entry or client
 DROP TABLE node; DROP TABLE entry; DROP TABLE client; CREATE VIEW Node AS SELECT 1|can not be read or written, or a view, an index or a foreign key in it names node, entry or client

@@ -1,5 +1,5 @@
--- Each line makes a file that holds no saved state of node 1 of 3 with the domain desk.example from one that does; behind
--- the bar stands what is told of whose it is.
+-- Each line makes a file that holds no saved state of node 1 of 3 with the domain desk.example from one that does; after
+-- the bar stands what is printed of whose it is.
 UPDATE node SET id = 2|it is of version 2, node 2 of 3, domain desk.example
 UPDATE node SET n = 5|it is of version 2, node 1 of 5, domain desk.example
 UPDATE node SET id = 257, n = 9007199254740992|it is of version 2, node 257 of 9007199254740992, domain desk.example

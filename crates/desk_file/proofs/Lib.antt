@@ -1,2 +1,3 @@
+pub mod EpochEnds
 pub mod KeyBytes
 pub mod Reading

@@ -1,4 +1,5 @@
 pub mod Closing
+pub mod EpochEnd
 pub mod EpochTable
 pub mod Faults
 pub mod Keys

@@ -9,8 +9,10 @@ ghost use Rattle.desk_file.specs.Closing.{EndsAnswers};
 ghost use Rattle.desk_file.specs.Faults.{unopened_fault};
 
 use crate::ended::{EndedFile, close_file};
+use crate::epoch_end::has_ended;
 use crate::epoch_table::is_of_epoch;
-use crate::faults::{NodeFile, closed_status, later_epoch_status, unopened_status};
+use crate::faults::{NodeFile, closed_status, other_epoch_status, unopened_status};
+use crate::names::name_in_epoch;
 use desk_answer::{Answered, answer_database};
 use desk_database::open_database;
 use desk_options::AnswerOptions;
@@ -18,6 +20,7 @@ use desk_output::{CountedInput, tell_cut, tell_no_packet};
 use desk_types::{Owner, Refusal};
 use sqlite::{Alter, Connection, Error, File, FileStore};
 use std::alloc::Global;
+use std::fs;
 use std::io::{Read, Write};
 
 /// Answers packets as the node whose state the database of a file keeps.
@@ -75,17 +78,36 @@ fn opened_status<R: Read, W: Write, E: Write>(
     status
 }
 
-/// Whether a file is marked as that of a later epoch than the first. A fault is left to who opens the state in it.
-fn is_of_later_epoch<S: Alter>(opened: &mut Result<Connection<S>, Error>) -> bool {
-    match opened {
-        Ok(connection) => matches!(is_of_epoch(connection, 0), Ok(false)),
+/// Whether a file of the second epoch lies beside a first file.
+fn has_second_file(host: &HostRuntime, file: &str) -> bool {
+    match name_in_epoch(host.alloc(), file, 1) {
+        Ok(name) => matches!(fs::exists(host, name.as_str()), Ok(true)),
         Err(_) => false,
     }
 }
 
+/// Why a file is none in which a node acts that knows the first epoch alone, in words that follow its name: it is
+/// marked as that of a later epoch, or the first one is over and a second file lies beside it. A first file without one
+/// is that of a desk of one epoch, which acts in it on a full log, too. A fault is left to who opens the state in it.
+fn why_of_other_epoch<S: Alter>(
+    opened: &mut Result<Connection<S>, Error>,
+    has_second: bool,
+) -> Option<&'static str> {
+    let Ok(connection) = opened else {
+        return None;
+    };
+    if matches!(is_of_epoch(connection, 0), Ok(false)) {
+        return Some(" is the file of a later epoch\n");
+    }
+    if has_second && matches!(has_ended(connection), Ok(true)) {
+        return Some(" is the file of an epoch that is over\n");
+    }
+    None
+}
+
 /// Answers packets between the standard streams as a node whose state an SQLite file keeps, tells the standard error
 /// what ended that, where it was a fault, and gives the exit status. A file that is marked as that of a later epoch is
-/// refused by `WrongFile`.
+/// refused by `WrongFile`, and so is a first one whose epoch is over, where the second file lies beside it.
 pub fn answer_file(rt: &HostRuntime, options: AnswerOptions) -> u8
     requires group { IsGroup options.owner.n }
     requires id { options.owner.id < options.owner.n }
@@ -93,9 +115,10 @@ pub fn answer_file(rt: &HostRuntime, options: AnswerOptions) -> u8
 {
     let AnswerOptions { owner, file } = options;
     let mut opened = open_database(rt, file.as_str());
-    if is_of_later_epoch(&mut opened) {
+    let has_second = has_second_file(rt, file.as_str());
+    if let Some(why) = why_of_other_epoch(&mut opened, has_second) {
         let _ = close_file(opened.ok());
-        return later_epoch_status(&mut rt.stderr(), file.as_str());
+        return other_epoch_status(&mut rt.stderr(), file.as_str(), why);
     }
     let mut input = CountedInput::new(rt.stdin());
     opened_status(

@@ -178,16 +178,13 @@ pub fn unopened_status<'a, E: Write>(errors: &mut E, file: &'a str, error: &Erro
     }
 }
 
-/// Tells the standard error that a file is that of a later epoch than the first, and answers the exit status.
-pub(crate) fn later_epoch_status<E: Write>(errors: &mut E, file: &str) -> u8
+/// Tells the standard error that a file is that of another epoch, in words that follow its name, and answers the exit
+/// status.
+pub(crate) fn other_epoch_status<E: Write>(errors: &mut E, file: &str, why: &'static str) -> u8
     ensures status { result ≡ FAILED }
     ensures printed { TellsFirst (E.contents errors.old) (E.contents errors.new) refusals.WrongFile }
 {
-    let words = [
-        Text("desk: "),
-        Text(shown(file)),
-        Text(" is the file of a later epoch\n"),
-    ];
+    let words = [Text("desk: "), Text(shown(file)), Text(why)];
     refusal_status_with(errors, &Refusal::WrongFile, &words)
 }
 

@@ -6,6 +6,7 @@
 mod answering;
 mod archiving;
 mod ended;
+mod epoch_end;
 mod epoch_table;
 mod faults;
 mod keys;
