@@ -7,6 +7,7 @@
 #![tactic(auto)]
 
 mod keys;
+mod past;
 
 ghost use Rattle.std.specs.Prelude.{◌≡◌, ◌≤◌, ◌<◌, ◌+◌, ◌^◌, IfOk, IfErr, IfSome, is_some};
 ghost use Rattle.desk_types.specs.Group.{IsGroup};
@@ -16,6 +17,7 @@ ghost use Rattle.desk_options.specs.Host.{FitsEpoch};
 ghost use Rattle.desk_output.specs.declared.telling.TheConstants.{FAILED};
 
 use crate::keys::{FileKey, copied_key, node_keys};
+use crate::past::PastEpochs;
 use desk_admission::{GroupAddress, Hosts};
 use desk_connections::{NodeKeys, NodePorts, NodeSetup};
 use desk_epoch_files::{EndedFiles, EpochFiles, HostDatabases, NamedDatabases};
@@ -218,7 +220,7 @@ fn unstarted_status<D: NamedDatabases + Drop, R: Wait + Clock>(
 /// It is written for any databases: a proof about files goes over all parts of their store, and so `main` alone names
 /// those.
 fn serve_bound<
-    D: NamedDatabases + Drop + Send + 'static,
+    D: NamedDatabases + Drop + Copy + Send + 'static,
     R: Net<Listener = TcpListener, Stream = TcpStream>
         + Threads
         + Wait
@@ -249,7 +251,8 @@ where
         file,
         next,
     } = node;
-    let (Ok(of_files), Ok(log)) = (owner.copy(), events.log().share()) else {
+    let past = PastEpochs::new(host.alloc(), databases, file.as_str(), &owner);
+    let (Ok(of_files), Ok(log), Ok(past)) = (owner.copy(), events.log().share(), past) else {
         return unstarted_status::<D, R>(host, rt, events, RefusedOpening::from(WantOfMemory));
     };
     let mut files = EpochFiles::new(host.alloc(), databases, file, of_files, places, next);
@@ -261,7 +264,15 @@ where
         }
     };
     let setup = NodeSetup::new(owner, address, ports, log);
-    match serve_node(rt, host.alloc(), &mut host.stdout(), setup, epochs, files) {
+    match serve_node(
+        rt,
+        host.alloc(),
+        &mut host.stdout(),
+        setup,
+        epochs,
+        files,
+        past,
+    ) {
         Ok(NodeEnd { stores, outcome }) => {
             let ended = EndedFiles::of_node(stores, outcome);
             events.end(rt, &ended.end.outcome);

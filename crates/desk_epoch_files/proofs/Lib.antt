@@ -1,3 +1,4 @@
 pub mod Additions
+pub mod Covered
 pub mod Making
 pub mod Members

@@ -64,7 +64,7 @@ fn open_state<S: Alter>(
 
 /// Opens a node's file of an epoch. That of the first epoch is made where it is missing, and no other. A file that is
 /// refused is closed.
-fn open_file<D: NamedDatabases>(
+pub(crate) fn open_file<D: NamedDatabases>(
     alloc: Global,
     databases: &mut D,
     file: &str,
@@ -147,10 +147,10 @@ fn unnamed_status<E: Write>(errors: &mut E, outcome: &Result<(), Refusal>, is_wh
 /// The files of a node over epochs. Each epoch ends after so many entries, `most`.
 pub struct EpochFiles<D: NamedDatabases> {
     alloc: Global,
-    databases: D,
+    pub(crate) databases: D,
     /// The name of the first file.
-    file: String,
-    owner: Owner,
+    pub(crate) file: String,
+    pub(crate) owner: Owner,
     most: u64,
     /// Whether a first file whose epoch has ended gets a second one, as an operator asks for.
     adds_second: bool,

@@ -42,4 +42,10 @@ impl NamedDatabases for HostDatabases {
         let _ = name;
         close_file(connection.take()).is_whole
     }
+
+    // All are databases of this host.
+    fn covers(&self, other: &HostDatabases) -> bool {
+        let _ = other;
+        true
+    }
 }

@@ -16,8 +16,10 @@ mod named_databases;
 mod new_table;
 mod next_file;
 mod open_error;
+mod past_files;
 
 pub use ended_files::EndedFiles;
 pub use epoch_files::EpochFiles;
 pub use host_databases::HostDatabases;
 pub use named_databases::NamedDatabases;
+pub use past_files::PastFiles;

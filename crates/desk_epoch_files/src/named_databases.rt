@@ -4,7 +4,7 @@ use sqlite::{Alter, Connection, Error};
 
 /// Opens the databases in files of these names.
 pub trait NamedDatabases {
-    ghost use Rattle.std.specs.Prelude.{◌≡◌, List, ℕ, Bool, Result, IfOk};
+    ghost use Rattle.std.specs.Prelude.{◌≡◌, List, ℕ, Bool, Result, IfOk, true};
     ghost use Rattle.sqlite.specs.Held.{Held};
     ghost use Rattle.sqlite.specs.declared.error.Error.{Error as AnError};
     ghost use Rattle.desk_epoch_files.specs.Additions.{AddsNone, AddsOnly};
@@ -36,4 +36,9 @@ pub trait NamedDatabases {
     fn close(&mut self, name: &str, connection: &mut Option<Connection<Self::Pages>>) -> bool
         ensures adds { AddsNone (may_find self.old) (may_find self.new) }
         ensures same { (at : List ℕ) → (c : Held Self.Pages) → may_open self.new at c → may_open self.old at c };
+
+    /// Whether each database that the other may open may be opened here, too.
+    fn covers(&self, other: &Self) -> bool
+        ensures { result ≡ true → (at : List ℕ) → (c : Held Self.Pages) → may_open other.now at c
+            → may_open self.now at c };
 }

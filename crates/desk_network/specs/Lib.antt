@@ -5,3 +5,4 @@ pub mod Queued
 pub mod QueuedInOrder
 pub mod Watched
 pub mod Unwatched
+pub mod PastStoreValue

@@ -6,7 +6,7 @@ use Rattle.desk_network.specs.declared.watched_store.WatchedStore.{WatchedStore}
 use Rattle.desk_network.specs.declared.watched_stores.WatchedStores.{WatchedStores}
 
 -- the stores that were watched
-abbrev pub unwatched : {T S R : Type 0} → EndedStores (WatchedStores T R) (WatchedStore S R) → EndedStores T S
+abbrev pub unwatched : {T S Q R : Type 0} → EndedStores (WatchedStores T Q R) (WatchedStore S R) → EndedStores T S
 unwatched ended = record {
   stores = ended.stores.stores;
   epoch = ended.epoch;
@@ -15,7 +15,7 @@ unwatched ended = record {
 }
 
 -- the refusal, with what opens the stores that were to be watched
-abbrev pub unwatched_refusal : {T R : Type 0} → RefusedOpening (WatchedStores T R) → RefusedOpening T
+abbrev pub unwatched_refusal : {T Q R : Type 0} → RefusedOpening (WatchedStores T Q R) → RefusedOpening T
 unwatched_refusal refused = record {
   refusal = refused.refusal;
   stores = option_map (λ w. w.stores) refused.stores;

@@ -9,6 +9,7 @@ ghost use Rattle.desk_types.specs.declared.refusal.Refusal.TheVariants as refusa
 
 use crate::keeping::{KeeperThread, NodeEnd};
 use crate::node::{NodeEpochs, NodeStart, start_node};
+use crate::past_stores::{PastStores, start_reader};
 use crate::watched_store::WatchedStore;
 use crate::watched_stores::WatchedStores;
 use desk_connections::{EndFlag, NodeRuntime, NodeSetup, end_with_input};
@@ -99,8 +100,8 @@ where
 }
 
 /// The stores that were watched.
-fn unwatched<T, S, R: Drop>(
-    watched: EndedStores<WatchedStores<T, R>, WatchedStore<S, R>>,
+fn unwatched<T, S, Q: Drop, R: Drop>(
+    watched: EndedStores<WatchedStores<T, Q, R>, WatchedStore<S, R>>,
 ) -> EndedStores<T, S>
     ensures { result ≡ unwatched watched }
 {
@@ -123,7 +124,9 @@ fn unwatched<T, S, R: Drop>(
 }
 
 /// The refusal of a node whose stores were to be watched.
-fn unwatched_refusal<T, R: Drop>(refused: RefusedOpening<WatchedStores<T, R>>) -> RefusedOpening<T>
+fn unwatched_refusal<T, Q: Drop, R: Drop>(
+    refused: RefusedOpening<WatchedStores<T, Q, R>>,
+) -> RefusedOpening<T>
     ensures { result ≡ unwatched_refusal refused }
 {
     let RefusedOpening { refusal, stores } = refused;
@@ -135,17 +138,24 @@ fn unwatched_refusal<T, R: Drop>(refused: RefusedOpening<WatchedStores<T, R>>) -
 }
 
 /// Serves as the node whose states are kept by what these stores open, until the standard input ends, a store fails or
-/// the node is replaced; `ready` is written once the node serves. It ends by `StoreFault` where a store fails, by
+/// the node is replaced; `ready` is written once the node serves. What opens past stores does so in a thread of its
+/// own; the keeper opens them itself where the host refuses that. It ends by `StoreFault` where a store fails, by
 /// `NodeStopped` where another node acts in its place, and by `WriteFault` where `ready` could not be written. Err is a
 /// node that was not started: by `WantOfMemory`, by `StoreFault` where a store fails, by `WrongFile` where one is
 /// missing or another node's, and by `NodeStopped` where another node acts in its place.
-pub fn serve_node<T: EpochStores + Drop + Send + 'static, R: NodeRuntime + Input, W: Write>(
+pub fn serve_node<
+    T: EpochStores + Drop + Send + 'static,
+    P: PastStores<T> + Drop + Send + 'static,
+    R: NodeRuntime + Input,
+    W: Write,
+>(
     rt: &R,
     alloc: Global,
     writer: &mut W,
     setup: NodeSetup,
     epochs: NodeEpochs,
     stores: T,
+    past: P,
 ) -> Result<NodeEnd<T, T::Store>, RefusedOpening<T>>
 where
     T::Store: Send + 'static,
@@ -163,7 +173,8 @@ where
         drop(setup);
         return Err(RefusedOpening::with(Refusal::WantOfMemory, stores));
     };
-    let watched = WatchedStores::new(stores, *rt, log, setup.owner.n);
+    let reader = start_reader::<T, P, R>(rt, alloc, past).ok();
+    let watched = WatchedStores::new(stores, reader, *rt, log, setup.owner.n);
     match start_serving(rt, alloc, writer, setup, epochs, watched) {
         Ok(ServedNode { keeper, reported }) => {
             let NodeEnd { stores, outcome } = keeper.join(rt);

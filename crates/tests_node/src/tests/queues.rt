@@ -1,4 +1,4 @@
-//! Long packets that come again for a node.
+//! Long packets, and asks for such, that come again for a node.
 
 use desk_peers::{LONG_PACKET_ENTRIES, PeerQueue, PeerQueues, open_queues};
 use desk_types::{
@@ -113,6 +113,59 @@ fn a_long_packet_that_comes_again_is_put_each_tenth_time(rt: HostRuntime) -> Res
     let alloc = rt.alloc();
     for (entries, differs, wanted) in ROWS {
         assert!(rt; put_of(rt, alloc, *entries, *differs) == Some(*wanted));
+    }
+    Ok(())
+}
+
+/// An ask for the entries after a place, for this purpose.
+fn ask(purpose: Purpose, base: u64) -> Option<EpochPacket> {
+    let message = Message::GetState {
+        from: 1,
+        view: 0,
+        base,
+    };
+    if !message.is_in_range() {
+        drop(message);
+        return None;
+    }
+    Some(EpochPacket {
+        epoch: 0,
+        purpose,
+        packet: Packet::new(message),
+    })
+}
+
+/// How many asks are put into new queues, the place of each of which is so much past that of the one before.
+fn asks_put<R: Wait + Drop + Copy>(
+    rt: R,
+    alloc: Global,
+    purpose: Purpose,
+    step: u64,
+) -> Option<u64> {
+    let (mut queues, ends) = open_queues(rt, alloc, 1, 3).ok()?;
+    let mut put: u64 = 0;
+    for time in 0..TIMES {
+        if queues.put(0, ask(purpose, time.wrapping_mul(step))?) {
+            put = put.wrapping_add(1);
+        }
+    }
+    drop(queues);
+    drop(ends);
+    Some(put)
+}
+
+/// Of twenty equal asks by the rules the first is put, and what comes again for the first and the sixteenth time.
+const ASK_ROWS: &[(Purpose, u64, u64)] = &[
+    (Purpose::Step, 0, 3),
+    (Purpose::Step, 1, TIMES),
+    (Purpose::Ask, 0, TIMES),
+];
+
+#[test]
+fn an_ask_that_comes_again_is_put_less_and_less(rt: HostRuntime) -> Result<(), Fail> {
+    let alloc = rt.alloc();
+    for (purpose, step, wanted) in ASK_ROWS {
+        assert!(rt; asks_put(rt, alloc, *purpose, *step) == Some(*wanted));
     }
     Ok(())
 }
