@@ -1,6 +1,6 @@
 -- What happens in a group of keepers, as acts of nodes over epochs.
 use Rattle.std.proofs.Common.{◌≡◌, ◌≢◌, ◌⊎◌, ◌<◌, ◌+◌, ℕ, Bool, true, false, cond, eqb, List, [], ◌∷◌, ◌++◌, take, refl}
-use Rattle.std.proofs.Common.{sym, ap, ◌∙◌, inl, inr, ⊎_elim, subst, arith, MatchBool}
+use Rattle.std.proofs.Common.{sym, ap, ◌∙◌, inl, inr, ⊎_elim, subst, arith, MatchBool, Option}
 use Rattle.std.specs.List.{AllByRecursion, Contains}
 use Rattle.std.proofs.lemmas.Bool.{cases_eq, eq-eqb, ne_eqb}
 use Rattle.std.proofs.lemmas.List.{length_push, take-append-drop}
@@ -18,6 +18,7 @@ use Rattle.desk_epoch_node.specs.EpochValue.{EpochValue, committed_cut}
 use Rattle.desk_epoch_node.specs.PastRows.{StandFor}
 use Rattle.desk_epoch_replica.specs.declared.deferring_replica.DeferringReplica.{DeferringReplica}
 use Rattle.desk_epoch_replica.specs.DeferringSaves.{BeginsDeferring, deferring_saving, reported_of}
+use Rattle.desk_epoch_replica.specs.Follows.{reported_after, unsaved_after}
 use Rattle.desk_epoch_replica.specs.MemberValue.{MemberValue}
 use Rattle.desk_epoch_replica.specs.ReplicaValue.{ReplicaValue}
 use Rattle.desk_epoch_group.specs.Group.{EpochNodes, EpochAct, ActsLead, first_epoch_nodes, started_again}
@@ -57,7 +58,7 @@ pub record KeepersGoOn {T S : Type 0} (Came : Entry → Type 0) (n most : ℕ) (
   pub came : OnlyMeets Came acts
   pub stands : KeepersStand Came most new later
 
-stand_of : {T S : Type 0} (Came : Entry → Type 0) (n most i : ℕ) (k : EpochKeepers T S) (g : EpochNodes) → i < n →
+pub stand_of : {T S : Type 0} (Came : Entry → Type 0) (n most i : ℕ) (k : EpochKeepers T S) (g : EpochNodes) → i < n →
     KeepersStand Came most k g → Stands n most i g (replica_node (k.replicas i)) (k.logs i)
 stand_of Came n most i k g small stands = record {
   small = small;
@@ -146,16 +147,19 @@ all_sent handed sent i [] f h = tt
 all_sent handed sent i (item ∷ more) f h = (handed_sent handed sent i item f h.0, all_sent handed sent i more f h.1)
 
 -- what a turn makes of a replica in memory
-record TurnMade {T S : Type 0} (Came : Entry → Type 0) (n most i : ℕ) (g : EpochNodes) (logs : List (List Entry))
-    (made : DeferringReplica T S) (packets : List (ℕ × EpochPacket)) : Type 0 where
-  moved : Moved Came n most i g (replica_node made) (logs_after_turn logs made) packets
-  held : AllByRecursion Came made.deferred.items
+pub record TurnMade {T S : Type 0} (Came : Entry → Type 0) (n most i : ℕ) (g : EpochNodes) (logs : List (List Entry))
+    (old made : DeferringReplica T S) (packets : List (ℕ × EpochPacket)) : Type 0 where
+  pub log : Option (List Entry)
+  pub reported : made.replica.reported ≡ reported_after old.replica.reported log
+  pub unsaved : made.replica.unsaved ≡ unsaved_after old.replica.unsaved log
+  pub moved : Moved Came n most i g (replica_node made) (logs_after_turn logs made) packets
+  pub held : AllByRecursion Came made.deferred.items
 
-turn_made : {T S : Type 0} (may_hold : T → ℕ → SavedValue → Type 0) (Came : Entry → Type 0) (n most i : ℕ)
+pub turn_made : {T S : Type 0} (may_hold : T → ℕ → SavedValue → Type 0) (Came : Entry → Type 0) (n most i : ℕ)
     (old : EpochKeepers T S) (g : EpochNodes) (turn : List Item) (packets : List (ℕ × EpochPacket))
     (made : DeferringReplica T S) → i < n → HeldCome T S may_hold Came → AllByRecursion (CameMail Came) turn →
     KeepersStand Came most old g → OneEpochTurn may_hold i old turn packets made →
-    TurnMade Came n most i g (old.logs i) made packets
+    TurnMade Came n most i g (old.logs i) (old.replicas i) made packets
 turn_made {T} {S} may_hold Came n most i old g turn packets made small comes came stands t =
     let (before, last, turn_is, none) = t.early in
     let r : DeferringReplica T S = old.replicas i in
@@ -169,6 +173,9 @@ turn_made {T} {S} may_hold Came n most i old g turn packets made small comes cam
     (stands.held i) t.tells none
     (subst (λ (xs : List Item). MeetsItems (replica_ghosts may_hold) r xs packets t.answers made) turn_is t.does) in
     record {
+      log = m.log;
+      reported = m.reported;
+      unsaved = m.unsaved;
       moved = subst (λ (ls : List (List Entry)). Moved Came n most i g (replica_node made) ls packets)
           (logs_of_turn logs m.log r.replica made (stands.saved i) m.reported m.unsaved) m.moved;
       held = turn_held may_hold Came r made turn packets t.answers comes came (stands.held i) t.does;
@@ -232,11 +239,11 @@ saved_as {T} {S} may_hold h made new (stored, saves, inr forgets) = record {
 }
 
 -- what a keeper makes of its replica between two turns
-record Advanced {T S : Type 0} (Came : Entry → Type 0) (n most i : ℕ) (g : EpochNodes) (logs : List (List Entry))
+pub record Advanced {T S : Type 0} (Came : Entry → Type 0) (n most i : ℕ) (g : EpochNodes) (logs : List (List Entry))
     (old new : DeferringReplica T S) (packets : List (ℕ × EpochPacket)) : Type 0 where
-  moved : Moved Came n most i g (replica_node new) (logs_after_begin logs old new) packets
-  saved : new.replica.unsaved ≡ false
-  deferred_is : new.deferred ≡ old.deferred
+  pub moved : Moved Came n most i g (replica_node new) (logs_after_begin logs old new) packets
+  pub saved : new.replica.unsaved ≡ false
+  pub deferred_is : new.deferred ≡ old.deferred
 
 pub begin_logs : {T S : Type 0} (logs : List (List Entry)) (old new : DeferringReplica T S) →
     (replica_node new).epoch ≡ (replica_node old).epoch + 1 →
@@ -279,7 +286,7 @@ begun h Came n most i g logs old new packets stands saved (inr b) =
       deferred_is = b.deferred_are;
     }
 
-advanced : {T S : Type 0} (may_hold : T → ℕ → SavedValue → Type 0) (h : Ghosts S) (Came : Entry → Type 0)
+pub advanced : {T S : Type 0} (may_hold : T → ℕ → SavedValue → Type 0) (h : Ghosts S) (Came : Entry → Type 0)
     (n most i : ℕ) (g : EpochNodes) (logs : List (List Entry)) (old new : DeferringReplica T S)
     (packets : List (ℕ × EpochPacket)) →
     Stands n most i g (replica_node old) logs → old.replica.unsaved ≡ false →
@@ -448,7 +455,7 @@ any_mail (mail.Packet p) = tt
 any_mail mail.Tick = tt
 any_mail mail.Stop = tt
 
-any_turn : (turn : List Item) → AllByRecursion (CameMail AnyCame) turn
+pub any_turn : (turn : List Item) → AllByRecursion (CameMail AnyCame) turn
 any_turn [] = tt
 any_turn (item ∷ more) = (any_mail item, any_turn more)
 
@@ -460,7 +467,7 @@ any_act (Advances i) = tt
 any_act (BreaksAdvanced i count) = tt
 any_act (Restarts i) = tt
 
-any_acts : (acts : List KeeperAct) → CameActs AnyCame acts
+pub any_acts : (acts : List KeeperAct) → CameActs AnyCame acts
 any_acts [] = tt
 any_acts (act ∷ more) = (any_act act, any_acts more)
 

@@ -1,5 +1,5 @@
 -- What happens among nodes over epochs, as what happens in a group.
-use Rattle.std.proofs.Common.{◌≡◌, ◌≢◌, ◌⊎◌, ◌<◌, ◌∙◌, ℕ, List, [], ◌∷◌, ◌++◌, map, cond, eqb, refl, sym, ap}
+use Rattle.std.proofs.Common.{◌≡◌, ◌≢◌, ◌<◌, ◌∙◌, ℕ, List, [], ◌∷◌, ◌++◌, map, cond, eqb, refl, sym, ap}
 use Rattle.std.proofs.Common.{⊎_elim, subst}
 use Rattle.std.specs.List.{AllByRecursion, Contains}
 use Rattle.std.proofs.lemmas.Bool.{cases_eq, eq-eqb, ne_eqb}
@@ -55,7 +55,7 @@ all_handed ps qs i [] f h = tt
 all_handed ps qs i (item ∷ more) f h = (handed_too ps qs i item f h.0, all_handed ps qs i more f h.1)
 
 -- the group with another keeper of node i, which has published this, after these packets
-with_keeper : {T S : Type 0} → PublishingKeepers T S → ℕ → DeferringReplica T S → List (List Entry) → List Entry →
+pub with_keeper : {T S : Type 0} → PublishingKeepers T S → ℕ → DeferringReplica T S → List (List Entry) → List Entry →
     List (ℕ × EpochPacket) → PublishingKeepers T S
 with_keeper k i replica logs list packets = record {
   keepers = record {
@@ -66,7 +66,7 @@ with_keeper k i replica logs list packets = record {
   published = λ j. cond (eqb j i) list (k.published j);
 }
 
-becomes : {T S : Type 0} (n i : ℕ) (k : PublishingKeepers T S) (replica : DeferringReplica T S)
+pub becomes : {T S : Type 0} (n i : ℕ) (k : PublishingKeepers T S) (replica : DeferringReplica T S)
     (logs : List (List Entry)) (list : List Entry) (packets : List (ℕ × EpochPacket)) → i < n →
     EpochKeeperBecomes n i k.keepers replica logs packets (with_keeper k i replica logs list packets).keepers
 unfolding with_keeper
@@ -79,7 +79,7 @@ becomes n i k replica logs list packets small = record {
   handed_are = refl;
 }
 
-publishes : {T S : Type 0} (i : ℕ) (k : PublishingKeepers T S) (replica : DeferringReplica T S)
+pub publishes : {T S : Type 0} (i : ℕ) (k : PublishingKeepers T S) (replica : DeferringReplica T S)
     (logs : List (List Entry)) (list : List Entry) (packets : List (ℕ × EpochPacket)) →
     Publishes i list k (with_keeper k i replica logs list packets)
 unfolding with_keeper

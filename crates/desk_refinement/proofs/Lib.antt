@@ -2,3 +2,8 @@ pub mod Queued
 pub mod NodeGroups
 pub mod SavedStops
 pub mod EpochNodeGroups
+pub mod OverLogs
+pub mod EpochStarts
+pub mod EpochStops
+pub mod FoundFiles
+pub mod EpochNodeStarts

@@ -3,3 +3,4 @@ pub mod Groups
 pub mod Stops
 pub mod EpochNodes
 pub mod EpochGroups
+pub mod EpochStops

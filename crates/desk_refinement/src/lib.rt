@@ -5,6 +5,10 @@
 ghost use Rattle.desk_network.specs.Putting.{queue_ends};
 ghost use Rattle.desk_refinement.specs.EpochGroups.{EpochNodesAgree, EpochNodesAreGroups, EpochNodesPublish};
 ghost use Rattle.desk_refinement.specs.EpochGroups.{QueuedMayBeTakenByNode, RunAndAgree, RunAsEpochGroups};
+ghost use Rattle.desk_refinement.specs.EpochStops.{EndedAreHeld, FilesFindOneOf, FilesFindHeld, NodesCameToBe};
+ghost use Rattle.desk_refinement.specs.EpochStops.{ReportedAreHeld, SavedRestarts, StartsRestartNodes};
+ghost use Rattle.desk_refinement.specs.EpochStops.{StopsAfterBeginning, StopsAfterSave, StopsBetweenEpochs};
+ghost use Rattle.desk_refinement.specs.EpochStops.{StopsInBeginning, StopsInFirstSave, StopsInReport, StopsInSave};
 ghost use Rattle.desk_refinement.specs.Groups.{QueuedMayBeTaken, RunAsGroups, NodesAreGroups, TurnsPublish};
 ghost use Rattle.desk_refinement.specs.Stops.{FindsEither, StopsInSaveHappen, FindsGiven, StopsAfterSaveHappen};
 
@@ -76,4 +80,38 @@ pub fn stops<S: Alter>()
     ensures saved { FindsGiven S.Store }
     // Packets of a turn go out after its save alone, so a stop among them is one in that turn.
     ensures goes { StopsAfterSaveHappen S.Store }
+{}
+
+/// That a node over epochs whose process ends at any moment starts again as in the law of `desk_epoch_keepers`, by what
+/// is found in the stores of its epochs: `epoch_nodes` has that as a premise. It does nothing: its clauses are the
+/// facts.
+pub fn epoch_stops<O: Out, T: EpochStores, S: Alter>()
+    // Nodes that run, wherever they stopped and were started again, are those of which the next clauses speak.
+    ensures nodes { NodesCameToBe T.may_hold T.Store.StateStore O.Out }
+    // Where the state that was saved last is found, that is a restart, in the next epoch where its own is over.
+    ensures restarts { SavedRestarts T.may_hold T.Store.StateStore }
+    // The state before the save of a turn is a restart, the one after it a stop in the turn.
+    ensures in_save { StopsInSave T.may_hold T.Store.StateStore }
+    // Packets of a turn go out after its save alone, so a stop among them is one in that turn.
+    ensures after_save { StopsAfterSave T.may_hold T.Store.StateStore }
+    // Of a log that was reported the state before its save is a restart, the log itself a stop between the epochs.
+    ensures in_report { StopsInReport T.may_hold T.Store.StateStore }
+    // So is that log where nothing was saved in the next epoch.
+    ensures between { StopsBetweenEpochs T.may_hold T.Store.StateStore }
+    // The first state of that epoch is a stop in the turn.
+    ensures in_first_save { StopsInFirstSave T.may_hold T.Store.StateStore }
+    // Of a beginning nothing is a restart, and the first state a stop in it.
+    ensures in_beginning { StopsInBeginning T.may_hold T.Store.StateStore }
+    // Packets of a beginning go out after that save alone.
+    ensures after_beginning { StopsAfterBeginning T.may_hold T.Store.StateStore }
+    // Each such start is what `epoch_nodes` has as a premise.
+    ensures again { StartsRestartNodes T.may_hold T.Store.StateStore O.Out }
+    // The store of an epoch that a node leaves has its log, where that was reported,
+    ensures reported { ReportedAreHeld T.may_hold T.Store.StateStore }
+    // and where the node had committed its end.
+    ensures ended { EndedAreHeld T.may_hold T.Store.StateStore }
+    // A file that holds a state is found with that,
+    ensures held { FilesFindHeld T.may_hold S.Store }
+    // and one with a save under way with the state before or the one that was to be saved.
+    ensures either { FilesFindOneOf T.may_hold S.Store }
 {}
