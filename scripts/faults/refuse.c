@@ -3,7 +3,7 @@
 //
 // Where REFUSED_EACH has a number, each request is refused in turn: the program goes on with all of them granted, and
 // at each request a copy of it (a fork) goes on with this one refused, so many copies at once. The program waits for
-// its copies at its end. The file that REFUSED_TOLD names tells how many requests there were, and those whose copies
+// its copies at its end. The file that REFUSED_TOLD names reports how many requests there were, and those whose copies
 // failed. A copy has the thread alone that asks, so a program that has threads then ends by 98.
 //
 // Where REFUSED_PAST has a number, each request is refused by which the program would hold more bytes than that.
@@ -25,7 +25,7 @@
 #include <unistd.h>
 
 struct steering {
-    // so many requests came since the start, and so many of them were refused: told by the program
+    // so many requests came since the start, and so many of them were refused: reported by the program
     atomic_long asked, refused;
     // from the request with this number on, so many more are refused: read by the program, which counts the second down
     atomic_long from, left;
@@ -56,7 +56,7 @@ static struct steering *mapped(const char *name) {
 enum { MOST_COPIES = 64 };
 static struct copy { pid_t id; long request; } copies[MOST_COPIES];
 static int most, running;
-static int told = -1;
+static int reported = -1;
 
 // A copy ends by itself in so many seconds.
 enum { COPY_SECONDS = 20 };
@@ -64,10 +64,10 @@ enum { COPY_SECONDS = 20 };
 static void tell(const char *words, long number) {
     char line[64];
     int length = snprintf(line, sizeof line, "%s %ld\n", words, number);
-    if (told >= 0 && write(told, line, length) < 0) leave(99);
+    if (reported >= 0 && write(reported, line, length) < 0) leave(99);
 }
 
-// Waits for a copy, and tells where it failed.
+// Waits for a copy, and reports where it failed.
 static void await_copy(void) {
     int status;
     pid_t ended = waitpid(-1, &status, 0);
@@ -143,7 +143,7 @@ static struct steering *begin(void) {
     const char *past = getenv("REFUSED_PAST");
     if (past) atomic_store(&most_held, atol(past));
     if (each && to) {
-        told = open(to, O_CREAT | O_WRONLY | O_CLOEXEC, 0600);
+        reported = open(to, O_CREAT | O_WRONLY | O_CLOEXEC, 0600);
         most = atoi(each) < MOST_COPIES ? atoi(each) : MOST_COPIES;
     }
     atomic_store(&steering, it);

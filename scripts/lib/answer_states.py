@@ -113,7 +113,7 @@ class Example:
         tell of; and the same packets once more leave the last one."""
         state, what = state_of(self.file, self.room), f'{self.name}, {what}'
         same(self.outs[-1].startswith(out), True, f'{what}: the answers {out.hex()}')
-        known = [len(told) for it, told in zip(self.states, self.outs) if it == state]
+        known = [len(reported) for it, reported in zip(self.states, self.outs) if it == state]
         same(max(known, default=-1) >= len(out), True, f'{what}: the state {state} after the answers {out.hex()}')
         same(answer(self.file, self.input())[1:], (0, ''), f'{what}: the next run')
         same(state_of(self.file, self.room), self.states[-1], f'{what}: the state after the next run')

@@ -272,7 +272,7 @@ class Board:
         return [grouped(pairs) for pairs in (self.calls, both_ways, self.commitments, self.stand_bys)]
 
     def members_of(self, incident, groups):
-        """What a show tells of an incident itself."""
+        """What a show has of an incident itself."""
         calls, links, units, stand_by = [group.get(incident.id, []) for group in groups]
         members = {'incident': incident.id, 'kind': incident.kind, 'where': incident.where, 'note': incident.note,
                    'opened': incident.opened, 'state': incident.state, 'calls': calls, 'links': links, 'units': units}
@@ -289,7 +289,7 @@ class Board:
         reply.update(self.members_of(incident, self.by_incident()), ok='incident')
 
     def members_of_unit(self, unit):
-        """What a show tells of a unit itself."""
+        """What a show has of a unit itself."""
         members = {'unit': unit, 'status': self.units[unit]}
         if self.incident_of(unit) is not None:
             members['incident'] = self.incident_of(unit)

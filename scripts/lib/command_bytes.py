@@ -1,7 +1,7 @@
 """The bytes of commands and of packets, written from docs/FORMATS.md. It shares no code with the desk."""
 
 STATUSES = ['available', 'dispatched', 'en_route', 'on_scene', 'transporting', 'at_facility', 'out_of_service']
-# each verb's number is its place, from 1 on; a member behind a question mark may be absent
+# each verb's number is its place, from 1 on; a member after a question mark may be absent
 FIELDS = {
     'open': ['kind', 'where', '?incident', '?call'], 'add_call': ['incident', 'call'], 'link': ['incident', 'other'],
     'unlink': ['incident', 'other'], 'merge': ['incident', 'into'], 'split': ['incident', 'call', 'kind', 'where'],

@@ -154,21 +154,21 @@ class Tab:
         return [(it["url"], it.get("postData")) for it in found]
 
     def faults(self):
-        """What the console and the log were told of errors since this was asked last."""
-        # what the browser tells of before its reply has come then
+        """What the console and the log got of errors since this was asked last."""
+        # what the browser reports of before its reply has come then
         self.value("1")
         mine = [e for e in self.browser.events if e.get("sessionId") == self.session]
         self.browser.events = [e for e in self.browser.events if e.get("sessionId") != self.session]
         return [text for text in (fault_of(e["method"], e["params"]) for e in mine) if text is not None]
 
 
-def fault_of(method, told):
-    """The text of an event that tells an error: an exception that nobody took, what the browser found itself, or what a
-    script told the console."""
+def fault_of(method, reported):
+    """The text of an event that is an error: an exception that nobody took, what the browser found itself, or what a
+    script wrote to the console."""
     if method == "Runtime.exceptionThrown":
-        return told["exceptionDetails"]["text"]
-    if method == "Log.entryAdded" and told["entry"]["level"] == "error":
-        return told["entry"]["text"]
-    if method == "Runtime.consoleAPICalled" and told["type"] in ("error", "assert"):
-        return " ".join(str(it.get("value", it.get("description"))) for it in told["args"])
+        return reported["exceptionDetails"]["text"]
+    if method == "Log.entryAdded" and reported["entry"]["level"] == "error":
+        return reported["entry"]["text"]
+    if method == "Runtime.consoleAPICalled" and reported["type"] in ("error", "assert"):
+        return " ".join(str(it.get("value", it.get("description"))) for it in reported["args"])
     return None

@@ -123,13 +123,13 @@ def end_of_line(data, start):
 
 
 def number_at(packet, places):
-    """The number of a packet whose place in it is told by the packet's kind, counted over all epochs, or nothing."""
+    """The number of a packet whose place in it is given by the packet's kind, counted over all epochs, or nothing."""
     at = places.get(packet[1])
     return None if at is None else packet.base + int.from_bytes(packet[at:at + 8], 'big')
 
 
 class Node:
-    """What a node of a group did, by its calls: when its logs were synced, what it heard of others and what it told. An
+    """What a node of a group did, by its calls: when its logs were synced, what it heard of others and what it sent. An
     epoch has so many places."""
 
     def __init__(self, calls, first, node, file, n=3, places=LOG_ENTRIES):
@@ -157,14 +157,14 @@ class Node:
         return epoch_file(self.file, (place - 1) // self.places) + LOG_END
 
     def save_of_body(self, body):
-        """The first sync behind a write of an entry with this body."""
+        """The first sync after a write of an entry with this body."""
         if body not in self.found:
             write = next((it for it in self.writes if body in it.data), None)
             self.found[body] = write and self.sync_after(write.ended, write.at)
         return self.found[body]
 
     def save_of_commit(self, place):
-        """The first sync behind the call by which the node came to know that a place is committed: one with another
+        """The first sync after the call by which the node came to know that a place is committed: one with another
         node's PrepareOk of it, or with any packet of such a commit."""
         if place not in self.found:
             knows = lambda it: place <= max(number_at(it, COMMIT_AT) or 0,
@@ -177,8 +177,8 @@ class Node:
         """The bodies that were heard for a place."""
         return {it[BODY_AT:] for it, _ in self.heard if it[1] == PREPARE and number_at(it, PLACE_AT) == place}
 
-    def told(self):
-        """What the node told: what it is, the call, and the syncs of which one must have ended before that call."""
+    def reported(self):
+        """What the node sent: what it is, the call, and the syncs of which one must have ended before that call."""
         for packet, call in self.sent:
             kind, place, commit = packet[1], number_at(packet, PLACE_AT), number_at(packet, COMMIT_AT)
             if kind == PREPARE:
@@ -192,8 +192,8 @@ class Node:
                 yield f'reply of place {place}', call, [self.save_of_commit(place)]
 
     def early(self):
-        """What was told before it was saved."""
-        return [what for what, call, saves in self.told()
+        """What was sent before it was saved."""
+        return [what for what, call, saves in self.reported()
                 if not any(save and save.ended < call.began for save in saves)]
 
     def entries_of_saves(self):

@@ -1,5 +1,5 @@
 """Clients of a group of nodes, which send generated documents, each until it is answered, and keep all that they were
-told: what the scripts share that put nodes to faults."""
+answered: what the scripts share that put nodes to faults."""
 import json
 import random
 import socket
@@ -17,7 +17,7 @@ VERBS = ['open'] * 4 + ['add_call'] * 3 + ['link', 'unlink', 'merge', 'split', '
 SHOWING = ('show', 'list')
 # the client may send the command again: another node leads, nobody answered in time, or the node stops
 AGAIN = {30, 32, 34}
-# what a client that shares its session with another is told beside: its number is too small, or its reply has gone
+# what a client that shares its session with another gets beside: its number is too small, or its reply has gone
 STALE, SUPERSEDED = 31, 35
 SHOW = '{"session":99,"do":"show"}'
 
@@ -61,7 +61,7 @@ class Drawer:
         }[verb]
 
     def command(self, verb, members):
-        """A command with the next number of the session, or with one behind that."""
+        """A command with the next number of the session, or with one after that."""
         self.number += self.draw.choice([1, 1, 1, 5])
         return {'session': self.session, 'number': self.number, 'at': AT, 'do': verb, **members}
 
@@ -82,7 +82,7 @@ class Group:
         self.room, self.firsts, self.n, self.seed, self.pause, self.leader = room, firsts, len(firsts), seed, pause, 0
         # the first port of the group for a client that follows
         self.first = firsts[0]
-        # where each node listens, the key of its ports where they have one, and what a client that follows is told then
+        # where each node listens, the key of its ports where they have one, and what a client that follows gets then
         self.hosts, self.key, self.follow_words = [HOST] * self.n, None, []
         self.is_over, self.is_cut = threading.Event(), threading.Event()
 
@@ -119,7 +119,7 @@ class Client(threading.Thread):
         # when commands were answered, and how often one that was answered already got the same reply
         self.times, self.alike = [], 0
         self.chance = random.Random(f'retries {group.seed} {name}')
-        # the place that the node told last, over this connection
+        # the place that the node showed last, over this connection
         self.place = 0
 
     def connect(self, kind=Session):
@@ -180,15 +180,15 @@ class Client(threading.Thread):
         if 'place' not in json.loads(reply) or self.shares or self.chance.random() >= self.retries:
             return
         self.go_to(self.chance.randrange(self.group.n))
-        told = self.answer_to(command)
-        if told == reply:
+        reported = self.answer_to(command)
+        if reported == reply:
             self.alike += 1
             self.place = max(self.place, json.loads(reply)['place'])
-        elif told is not None:
-            self.wrong.append(f'{told} to {command} once more, and before {reply}')
+        elif reported is not None:
+            self.wrong.append(f'{reported} to {command} once more, and before {reply}')
 
     def note_show(self, show, reply):
-        """Keeps the reply to a show. It does not go back behind what was told before on the same connection."""
+        """Keeps the reply to a show. It does not go back before what was shown on the same connection."""
         place = json.loads(reply).get('place', -1)
         if place < self.place:
             self.wrong.append(f'{reply} to {show}, after place {self.place}')
@@ -197,7 +197,7 @@ class Client(threading.Thread):
             self.shows.append((show, reply))
 
     def work(self):
-        """Does one thing, and tells whether there is more to do."""
+        """Does one thing, and says whether there is more to do."""
         document = self.drawer.document()
         if document['do'] not in SHOWING:
             reply = self.do(document)
@@ -228,9 +228,9 @@ class Twin(Client):
 
     def work(self):
         goes_on = super().work()
-        told = json.loads(self.commands[-1][1]) if self.commands else {}
-        if told.get('refusal') == STALE and self.drawer.draw.random() < 0.8:
-            self.drawer.number = max(self.drawer.number, told['latest'])
+        reported = json.loads(self.commands[-1][1]) if self.commands else {}
+        if reported.get('refusal') == STALE and self.drawer.draw.random() < 0.8:
+            self.drawer.number = max(self.drawer.number, reported['latest'])
         return goes_on
 
 
@@ -263,7 +263,7 @@ class FollowingClient(Client):
         self.program = None
 
     def answer_to(self, document):
-        # whichever node answers: so it is not told who leads, and a show may go back
+        # whichever node answers: so it does not learn who leads, and a show may go back
         self.node, self.place = self.group.leader, 0
         while not self.group.is_cut.is_set():
             reply = self.ask_program(line_of(document))

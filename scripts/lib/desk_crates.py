@@ -14,7 +14,7 @@ def text_of(path):
 
 
 def written(path, text):
-    """Puts a page that a script makes into its place where the script is told `--write`, else prints it."""
+    """Puts a page that a script makes into its place where the script is given `--write`, else prints it."""
     if sys.argv[1:] == ['--write']:
         with open(os.path.join(ROOT, path), 'w', encoding='utf-8') as it:
             it.write(text)
@@ -46,7 +46,7 @@ def named():
 
 
 def with_all_below(crate):
-    """A crate, behind all that it stands on."""
+    """A crate, after all that it stands on."""
     found = []
     for below in named()[crate][0]:
         found += [it for it in with_all_below(below) if it not in found]

@@ -1,4 +1,4 @@
-"""The files of nodes, made as docs/FORMATS.md tells, with logs that have entries already."""
+"""The files of nodes, made as docs/FORMATS.md says, with logs that have entries already."""
 import random
 import sqlite3
 

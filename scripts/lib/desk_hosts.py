@@ -12,7 +12,7 @@ import threading
 import time
 
 CLONE_NEWNET = 0x40000000
-# what linux/if_packet.h and linux/if_ether.h name: whole frames, each behind what the sender left to its card to do
+# what linux/if_packet.h and linux/if_ether.h name: whole frames, each after what the sender left to its card to do
 ALL_FRAMES, SOL_PACKET, PACKET_VNET_HDR, OUTGOING = 3, 263, 15, 4
 FRAME_BYTES = 70_000
 # a card that nobody has

@@ -1,6 +1,6 @@
 """Relays between the nodes of a group, all on this host's loopback. A node reaches the others at ports that follow from
 its own `--port`; each gets another one, and at the ports where it looks for the others relays listen. They carry the
-bytes as they are, and are slow, hold, lose or cut what goes through them as they are told."""
+bytes as they are, and are slow, hold, lose or cut what goes through them as they are asked."""
 import random
 import socket
 import threading
@@ -36,7 +36,7 @@ class Connection:
         for it in self.streams:
             it.setsockopt(socket.IPPROTO_TCP, socket.TCP_NODELAY, 1)
             it.settimeout(None)
-        # whether bytes of it were lost: then none behind them may come
+        # whether bytes of it were lost: then none after them may come
         self.is_lost = False
 
     def end(self):

@@ -30,7 +30,7 @@ def script():
 
 
 def is_built():
-    """Whether the program can be run. Where it can not, that is told."""
+    """Whether the program can be run. Where it can not, that is reported."""
     if os.access(PROGRAM, os.X_OK):
         return True
     print(f'{script()}: the program is not built; ./desk build builds it', file=sys.stderr)
@@ -104,16 +104,16 @@ class Program:
         Program.started.append(self.run)
 
     def is_ready(self):
-        """Whether it told that it is ready. It waits for that, or for its end."""
+        """Whether it said that it is ready. It waits for that, or for its end."""
         return self.run.stdout.readline() == b'ready\n'
 
     def end(self, seconds=20):
-        """Ends its standard input, and gives its status and what it told the standard error."""
-        _, told = self.run.communicate(timeout=seconds)
-        return self.run.returncode, told.decode()
+        """Ends its standard input, and gives its status and what it printed on standard error."""
+        _, reported = self.run.communicate(timeout=seconds)
+        return self.run.returncode, reported.decode()
 
     def wait(self, seconds=20):
-        """Waits for an end of its own, and gives its status and what it told the standard error."""
+        """Waits for an end of its own, and gives its status and what it printed on standard error."""
         self.run.wait(timeout=seconds)
         return self.run.returncode, self.run.stderr.read().decode()
 
@@ -143,7 +143,7 @@ def stop_all():
 
 
 def end_by_signals():
-    """Has this script end by itself when it is told to, so that what it does at its end is done."""
+    """Has this script end by itself when it is asked to, so that what it does at its end is done."""
     for number in (signal.SIGTERM, signal.SIGHUP):
         signal.signal(number, lambda *_: sys.exit(1))
 
@@ -194,7 +194,7 @@ def copy_of(file, room):
     return copy
 
 
-# what a node tells of a fault of its store, and what it says of the file
+# what a node reports of a fault of its store, and what it says of the file
 STORE_FAULT = 'desk: 41 StoreFault\n'
 CLOSED, UNWRITTEN = 'can not be opened or made', \
     'can not be read or written, or a view, an index or a foreign key in it names node, entry or client'
@@ -203,9 +203,9 @@ UNMARKED = 'can not be read or written, or has another table (epoch|member)'
 
 def is_store_fault(ended, file):
     """Whether a node ended by a fault of one of its files, the first of which has this name."""
-    status, told = ended
+    status, reported = ended
     why = '|'.join((CLOSED, UNWRITTEN, UNMARKED))
-    return status == 1 and bool(re.fullmatch(rf'{STORE_FAULT}desk: {re.escape(file)}(\.\d+)? ({why})\n', told))
+    return status == 1 and bool(re.fullmatch(rf'{STORE_FAULT}desk: {re.escape(file)}(\.\d+)? ({why})\n', reported))
 
 
 def serve_group(room, first, words=()):
@@ -214,7 +214,7 @@ def serve_group(room, first, words=()):
 
 
 def answer(file, data, before=(), size=None, node=1):
-    """What `desk answer` writes as a node of 3 over a file, behind these words, and its status, and what it tells the
+    """What `desk answer` writes as a node of 3 over a file, after these words, and its status, and what it prints on
     standard error."""
     words = [*before, PROGRAM, 'answer', '--node', str(node), '--nodes', '3', '--domain', DOMAIN, '--file', file]
     ran = subprocess.run(words, input=data, capture_output=True, timeout=60, preexec_fn=limited(size))
@@ -222,7 +222,7 @@ def answer(file, data, before=(), size=None, node=1):
 
 
 def send(port, data, seconds=60):
-    """What `desk send` prints for this input, its status, and what it tells the standard error."""
+    """What `desk send` prints for this input, its status, and what it prints on standard error."""
     ran = subprocess.run([PROGRAM, 'send', '--port', str(port)], input=data, capture_output=True, timeout=seconds)
     return ran.stdout, ran.returncode, ran.stderr.decode()
 
@@ -278,7 +278,7 @@ def until(seconds, found, pause=0.05):
 
 
 def has_passed(name, run):
-    """Whether a test ends without a fault. Else its name is told, and the fault."""
+    """Whether a test ends without a fault. Else its name is printed, and the fault."""
     try:
         run()
     except Exception:
@@ -289,7 +289,7 @@ def has_passed(name, run):
 
 
 def run_tests(tests, run=lambda test: test()):
-    """Runs tests of the built program, tells by name which fail, and how many. What a script ends with."""
+    """Runs tests of the built program, reports by name which fail, and how many. What a script ends with."""
     if not is_built():
         return 2
     failed = sum(not has_passed(test.__name__, lambda: run(test)) for test in tests)
@@ -298,7 +298,7 @@ def run_tests(tests, run=lambda test: test()):
 
 
 def run_beside(tests, threads):
-    """Runs tests by name beside each other, so many at a time, tells what each gives, and how many failed."""
+    """Runs tests by name beside each other, so many at a time, reports what each gives, and how many failed."""
     with ThreadPoolExecutor(threads) as pool:
         runs = [(name, pool.submit(test)) for name, test in tests]
         tell = lambda run: print(f'{script()}: {run.result()}', flush=True)

@@ -1,4 +1,4 @@
-"""Compares what clients were told with the log that the nodes' files hold, by a second model of the board: what
+"""Compares what clients were answered with the log that the nodes' files hold, by a second model of the board: what
 the scripts share that put nodes to faults."""
 import json
 import sqlite3
@@ -13,7 +13,7 @@ LOG_ENTRIES = 65536
 TABLES, MARK = {'node', 'entry', 'client'}, 'epoch'
 
 
-def told_of(file, *statements):
+def rows_by(file, *statements):
     """What SQLite finds in a file by each of these statements."""
     base = sqlite3.connect(file)
     try:
@@ -26,7 +26,7 @@ def is_made(file):
     """Whether a file is a database. A new one is none before its first page is whole, whose first byte is written
     last."""
     try:
-        told_of(file, 'SELECT 1 FROM sqlite_schema')
+        rows_by(file, 'SELECT 1 FROM sqlite_schema')
     except sqlite3.DatabaseError:
         with open(file, 'rb') as it:
             if it.read(1) == b'\0':
@@ -38,7 +38,7 @@ def is_made(file):
 def tables_of(file):
     """The tables of a file, none where it was not made."""
     names = "SELECT name FROM sqlite_schema WHERE type = 'table'"
-    return {name for name, in told_of(file, names)[0]} if is_made(file) else set()
+    return {name for name, in rows_by(file, names)[0]} if is_made(file) else set()
 
 
 def state_of(file):
@@ -46,7 +46,7 @@ def state_of(file):
     none where it was not made to its end."""
     if 'node' not in tables_of(file):
         return 0, []
-    [[(commit,)], rows] = told_of(file, 'SELECT commit_no FROM node',
+    [[(commit,)], rows] = rows_by(file, 'SELECT commit_no FROM node',
                                   'SELECT client, number, body FROM entry ORDER BY place')
     return commit, rows
 
@@ -79,7 +79,7 @@ def is_filled(file, places):
 
 def is_sound_epoch(file):
     """Whether SQLite finds nothing wrong in a file of one epoch, as far as it is made."""
-    return not is_made(file) or told_of(file, 'PRAGMA integrity_check') == [[('ok',)]]
+    return not is_made(file) or rows_by(file, 'PRAGMA integrity_check') == [[('ok',)]]
 
 
 def is_sound(file):
@@ -90,8 +90,8 @@ def is_sound(file):
 def is_whole(file):
     """Whether SQLite finds nothing wrong in a node's files, which are of version 2, each of its epoch."""
     def is_of(epoch, file):
-        marked = [[(epoch,)]] == told_of(file, f'SELECT number FROM {MARK}') if epoch else MARK not in tables_of(file)
-        return marked and TABLES <= tables_of(file) and told_of(file, 'SELECT version FROM node') == [[(2,)]]
+        marked = [[(epoch,)]] == rows_by(file, f'SELECT number FROM {MARK}') if epoch else MARK not in tables_of(file)
+        return marked and TABLES <= tables_of(file) and rows_by(file, 'SELECT version FROM node') == [[(2,)]]
     return is_sound(file) and all(is_of(*it) for it in enumerate(epoch_files(file)))
 
 
@@ -131,7 +131,7 @@ class Comparison:
                 self.wrong.append(f'{show} at {self.board.place}: {reply}, and not {self.board.show(show)}')
 
     def apply(self, session, number, body):
-        """Does the command that was sent with this body, and tells whether there was one that could come now."""
+        """Does the command that was sent with this body, and says whether there was one that could come now."""
         found = [it for it in self.sent.get((session, number), []) if body_of(it, SECONDS) == body]
         if not found or number <= self.latest.get(session, 0):
             self.wrong.append(f'request {number} of session {session} is committed twice, late or otherwise than sent')
@@ -149,16 +149,16 @@ class Comparison:
         self.wrong += [f'shows at {place}, which is past the committed log' for place in self.shows]
 
     def allows(self, client, number, reply):
-        """Whether the client may be told this: the reply of the committed command; and where two share a session, that
+        """Whether the client may get this: the reply of the committed command; and where two share a session, that
         a greater number of theirs was there first."""
-        session, told = client.drawer.session, json.loads(reply)
+        session, reported = client.drawer.session, json.loads(reply)
         if reply == self.replies.get((session, number)):
             return True
         if not client.shares:
             return False
-        if told.get('refusal') == STALE:
-            return told['latest'] > number and (session, told['latest']) in self.sent
-        return told.get('refusal') == SUPERSEDED and (session, number) in self.replies \
+        if reported.get('refusal') == STALE:
+            return reported['latest'] > number and (session, reported['latest']) in self.sent
+        return reported.get('refusal') == SUPERSEDED and (session, number) in self.replies \
             and self.latest[session] > number
 
 

@@ -1,4 +1,4 @@
-"""A node that goes over the ends of epochs, packet by packet, as a stand-in of its primary tells it to: what scripts
+"""A node that goes over the ends of epochs, packet by packet, as a stand-in of its primary has it do: what scripts
 share that stop such a node between its calls of the host."""
 import os
 import socket
@@ -10,9 +10,9 @@ from desk_calls import HEADER_BYTES, PLACES_MARK, PREPARE_OK, STEP, is_mark
 from desk_clients import LONG_SECONDS, SECONDS
 from desk_links import listen
 from desk_nodes import HOST, clear, copy_of, epoch_file, epoch_files, file_of, first_port, same, serve
-from desk_replies import is_filled, is_sound, is_whole, tables_of, told_of
+from desk_replies import is_filled, is_sound, is_whole, tables_of, rows_by
 
-# an epoch has so few places; two of them are over behind so many entries, and a third has begun
+# an epoch has so few places; two of them are over after so many entries, and a third has begun
 PLACES, ENTRIES = 2, 5
 COMMIT, START_VIEW_CHANGE, DO_VIEW_CHANGE = 3, 4, 5
 # how long a packet waits for its answer before it is sent again, and how long a node may take for one entry
@@ -79,7 +79,7 @@ class Primary:
         self.stream = None
 
     def send_entry(self, place):
-        """Sends the entry of a place of the history, behind the commit that ends the epoch before."""
+        """Sends the entry of a place of the history, after the commit that ends the epoch before."""
         epoch, last = divmod(place - 1, PLACES)
         if epoch > 0 and last == 0:
             self.begin_view(epoch - 1, PLACES)
@@ -119,7 +119,7 @@ class Primary:
 
 def rows_with_void(file):
     """The entries that the files of a node hold, committed or not, epoch by epoch."""
-    return [told_of(it, 'SELECT client, number, body FROM entry ORDER BY place')[0] if 'entry' in tables_of(it) else []
+    return [rows_by(it, 'SELECT client, number, body FROM entry ORDER BY place')[0] if 'entry' in tables_of(it) else []
             for it in epoch_files(file)]
 
 
@@ -139,9 +139,9 @@ class Ends:
         return sum(rows_with_void(copy_of(self.file, self.room)), [])
 
     def run(self, before=(), attach=None, is_short=False):
-        """A node is served behind these words, and, unless the run is short, hears the entries that its files lack.
+        """A node is served after these words, and, unless the run is short, hears the entries that its files lack.
         `attach` is called with its process once it is ready. It gives how many places the node has acknowledged, its
-        status, and what it told."""
+        status, and what it printed."""
         place = len(self.saved()) if os.path.exists(self.file) else 0
         primary, node = Primary(self.first), serve(self.first, 1, self.file, words=['--epoch-places', PLACES],
                                                    before=before)

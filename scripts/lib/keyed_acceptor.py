@@ -1,6 +1,6 @@
 """A stand-in of a node's two ports, whose users hold keys, as docs/KEYS.md spells it; with one planted fault where it
-is told one. It shares no code with the desk. A line that opens an incident and a Prepare are done at once, each at the
-next place, and a show tells the last. The keys come by the standard input, at whose end it ends:
+is given one. It shares no code with the desk. A line that opens an incident and a Prepare are done at once, each at the
+next place, and a show reports the last. The keys come by the standard input, at whose end it ends:
 
     python3 scripts/lib/keyed_acceptor.py FIRST_PORT [FAULT]
 """
@@ -123,8 +123,8 @@ class Acceptor:
 
     # records
 
-    def is_right(self, keys, count, front, told):
-        right = lambda key, count: hmac.compare_digest(told, tag(key, struct.pack('>Q', count), front))
+    def is_right(self, keys, count, front, reported):
+        right = lambda key, count: hmac.compare_digest(reported, tag(key, struct.pack('>Q', count), front))
         others = {'takes_a_record_again': [(keys[0], it) for it in range(count)],
                   'takes_a_later_record': [(keys[0], it) for it in range(count, count + 9)],
                   'has_one_key_for_both_directions': [(keys[1], count)],
@@ -144,8 +144,8 @@ class Acceptor:
                 text = source.read(carried)
                 if self.has('gives_on_before_the_tag') and len(text) == carried:
                     take(text)
-                told = source.read(32)
-                if len(text) < carried or len(told) < 32 or not self.is_right(keys, count, length + text, told):
+                reported = source.read(32)
+                if len(text) < carried or len(reported) < 32 or not self.is_right(keys, count, length + text, reported):
                     return
                 if not self.has('gives_on_before_the_tag'):
                     take(text)

@@ -1,4 +1,4 @@
-"""A client of a port whose users hold a key: the handshake, and the records behind it, as docs/KEYS.md spells them."""
+"""A client of a port whose users hold a key: the handshake, and the records after it, as docs/KEYS.md spells them."""
 import hashlib
 import hmac
 import os
@@ -33,13 +33,13 @@ def read_exactly(stream, count):
     while len(got) < count:
         piece = stream.recv(count - len(got))
         if not piece:
-            raise NotProved(f"closed behind {len(got)} of {count} bytes")
+            raise NotProved(f"closed after {len(got)} of {count} bytes")
         got += piece
     return got
 
 
 class KeyedConnection:
-    """A connection behind its handshake: lines go out and come back as records. Over a stream that is there, or else
+    """A connection after its handshake: lines go out and come back as records. Over a stream that is there, or else
     over a new one. It can stand where a socket is used and read by lines."""
 
     def __init__(self, port, key, host="127.0.0.1", seconds=10, stream=None, **said):
@@ -73,8 +73,8 @@ class KeyedConnection:
         """The bytes of the next record."""
         length = read_exactly(self.stream, 4)
         text = read_exactly(self.stream, struct.unpack(">I", length)[0])
-        told = read_exactly(self.stream, 32)
-        if not hmac.compare_digest(told, tag(self.into, struct.pack(">Q", self.taken), length + text)):
+        reported = read_exactly(self.stream, 32)
+        if not hmac.compare_digest(reported, tag(self.into, struct.pack(">Q", self.taken), length + text)):
             raise NotProved("a record's tag is wrong")
         self.taken += 1
         return text

@@ -7,7 +7,7 @@ import json
 CONTROLS = {'button', 'link', 'textbox', 'searchbox', 'combobox', 'checkbox', 'radio', 'slider', 'spinbutton', 'switch',
             'menuitem', 'tab', 'listbox'}
 LANDMARKS = {'banner', 'main', 'navigation', 'complementary', 'contentinfo', 'region', 'search', 'form'}
-# what stands outside of landmarks: what is told at once, dialogs, and links to a part of the page
+# what stands outside of landmarks: what is announced at once, dialogs, and links to a part of the page
 OUTSIDE = {'alert', 'status', 'dialog', 'alertdialog', 'link'}
 LEAST_CONTRAST, LEAST_FOCUS_CONTRAST, MOST_STOPS = 4.5, 3, 400
 
@@ -96,7 +96,7 @@ def headings_out_of_order(page):
     levels = [property_of(node, 'level') for node in page.of_role('heading')]
     first = 2 if page.is_modal else 1
     wrong = [] if levels[:1] == [first] and levels.count(1) == (not page.is_modal) else [f'levels {levels}']
-    return wrong + [f'{below} behind {above}' for above, below in zip(levels, levels[1:]) if below > above + 1]
+    return wrong + [f'{below} after {above}' for above, below in zip(levels, levels[1:]) if below > above + 1]
 
 
 def wrong_landmarks(page):
@@ -115,15 +115,15 @@ def texts_outside_landmarks(page):
             if name_of(node).strip() and not inside & set(map(role_of, page.above(node)))]
 
 
-def texts_told_to_nobody(page):
-    """What tells of an outcome or of the connection, and is in no live region: by its first words, since it tells for
+def texts_said_to_nobody(page):
+    """What says an outcome or how the connection is, and is in no live region: by its first words, since it says for
     how long too."""
     if page.is_modal:
         return []
     texts = page.asked("[...document.querySelectorAll('#state, #alert, #sent li')].filter(seen)"
                        ".map((e) => e.textContent.slice(0, 12))")
-    told = [name_of(node) for node in page.of_role('StaticText') if page.is_live(node)]
-    return [text for text in texts if not any(it.startswith(text) for it in told)]
+    reported = [name_of(node) for node in page.of_role('StaticText') if page.is_live(node)]
+    return [text for text in texts if not any(it.startswith(text) for it in reported)]
 
 
 def missing_words_of_the_page(page):
@@ -222,7 +222,7 @@ CHECKS = [
     ('headings are in order', headings_out_of_order, '<h2 id="one">Incidents</h2>', '<p id="one">Incidents</p>'),
     ('landmarks are there, and named', wrong_landmarks, '<nav aria-label="Views">', '<nav>'),
     ('texts are in landmarks', texts_outside_landmarks, '<main>', '<p>Two persons inside</p><main>'),
-    ('what is told is in a live region', texts_told_to_nobody, '<ol id="sent" aria-live="polite">', '<ol id="sent">'),
+    ('what is said is in a live region', texts_said_to_nobody, '<ol id="sent" aria-live="polite">', '<ol id="sent">'),
     ('the page has a language and a title', missing_words_of_the_page, '<html lang="en">', '<html>'),
     ('tables have headers', tables_without_headers, '<th scope="col">Kind</th>', ''),
     ('no tabindex is positive', positive_tab_indexes, BUTTON, '<button tabindex="2">Clear</button>'),

@@ -169,17 +169,17 @@ class PagedGroup:
 
     def find_primary(self):
         """The node that does not name another, in a list, where there is one."""
-        self.told = []
+        self.reported = []
         for node in range(3):
             self.probes += 1
-            self.told.append(ask_once(self.first, node, PROBE % self.probes, 2))
-            if self.told[-1] and json.loads(self.told[-1]).get('refusal') not in (30, 32, 34):
+            self.reported.append(ask_once(self.first, node, PROBE % self.probes, 2))
+            if self.reported[-1] and json.loads(self.reported[-1]).get('refusal') not in (30, 32, 34):
                 return [node]
         return []
 
     def primary(self):
         found = until(20, self.find_primary)
-        same(len(found), 1, f'nodes that lead, of those that tell {self.told}')
+        same(len(found), 1, f'nodes that lead, of those that tell {self.reported}')
         return found[0]
 
     def reply_to(self, line):
@@ -187,7 +187,7 @@ class PagedGroup:
         return json.loads(ask_once(self.first, self.primary(), line))
 
     def place(self):
-        """The greatest place that a node tells."""
+        """The greatest place that a node reports."""
         replies = [ask_once(self.first, node, SHOW) for node in range(3)]
         return max(json.loads(reply)['place'] for reply in replies if reply)
 
@@ -235,7 +235,7 @@ class Poller(threading.Thread):
         same(answer.status, 200, 'status')
         self.board = json.loads(body)
         place = self.board['place']
-        same((self.board['ok'], place > after), ('list', True), f'a board at place {place} behind one at {after}')
+        same((self.board['ok'], place > after), ('list', True), f'a board at place {place} after one at {after}')
         self.places.append(place)
 
     def answer_to(self, path):
@@ -313,7 +313,7 @@ class LightPoller:
         if status == 200:
             place = int(PLACE.match(text, text.rfind(self.MARK))[1])
             after = self.places[-1] if self.places else -1
-            same(place > after, True, f'a board at place {place} behind one at {after}')
+            same(place > after, True, f'a board at place {place} after one at {after}')
             self.places.append(place)
 
 
@@ -367,11 +367,11 @@ def end_pollers(pollers, over):
 
 
 def follow(listen, count, pipe):
-    """Browsers that follow until they are told a place, and have its board: how many boards each got."""
-    browsers, last, is_told = [LightPoller(listen) for _ in range(count)], None, False
+    """Browsers that follow until they are given a place, and have its board: how many boards each got."""
+    browsers, last, is_reported = [LightPoller(listen) for _ in range(count)], None, False
     while last is None or any(browser.places[-1] < last for browser in browsers):
-        if not is_told and all(browser.places for browser in browsers):
-            is_told = True
+        if not is_reported and all(browser.places for browser in browsers):
+            is_reported = True
             pipe.send('ready')
         for found in select.select([pipe, *browsers], [], [])[0]:
             if found is pipe:
@@ -410,19 +410,19 @@ class IdleConnections(threading.Thread):
     def __init__(self, listen, count, seconds):
         super().__init__(daemon=True)
         self.began, self.seconds = time.monotonic(), seconds
-        self.told, self.closed = {}, {}
+        self.sent, self.closed = {}, {}
         for _ in range(count):
             stream = socket.socket()
             stream.setblocking(False)
             stream.connect_ex((HOST, listen))
-            self.told[stream] = b''
+            self.sent[stream] = b''
         self.start()
 
     def run(self):
-        while len(self.closed) < len(self.told) and time.monotonic() < self.began + self.seconds:
-            for stream in select.select(self.told.keys() - self.closed.keys(), [], [], 0.5)[0]:
+        while len(self.closed) < len(self.sent) and time.monotonic() < self.began + self.seconds:
+            for stream in select.select(self.sent.keys() - self.closed.keys(), [], [], 0.5)[0]:
                 self.read(stream)
-        for stream in self.told:
+        for stream in self.sent:
             stream.close()
 
     def read(self, stream):
@@ -430,6 +430,6 @@ class IdleConnections(threading.Thread):
             came = stream.recv(4096)
         except ConnectionError:
             came = b''
-        self.told[stream] += came
+        self.sent[stream] += came
         if not came:
             self.closed[stream] = time.monotonic() - self.began

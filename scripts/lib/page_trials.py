@@ -18,7 +18,7 @@ RECORD_ROWS = """Object.fromEntries([...document.querySelectorAll('#record-value
   const items = [...name.nextSibling.querySelectorAll('li')].map((item) => item.textContent);
   return [name.textContent, items.length ? items : name.nextSibling.textContent]; }))"""
 CLOSED = "[...document.querySelectorAll('#closed-table tbody tr')].filter(r => r.textContent.includes(%s))"
-# refusals after which the page's server asks again: no page is told of them
+# refusals after which the page's server asks again: no page gets them
 ASKED_AGAIN = {30, 32, 34, 40}
 # that of a `replace` whose node was not heard
 UNHEARD = 38
@@ -213,7 +213,7 @@ class Day:
         page.waits_for(f"{page.row(self.here)}.querySelector('td.links a')")
 
     def refusals(self):
-        """What the desk refuses is told in words. Behind the last of these the call is added."""
+        """What the desk refuses is shown in words. After the last of these the call is added."""
         page = self.page
         page.at_key(self.here, 'c')
         page.confirms()
@@ -355,16 +355,16 @@ def by_the_mouse(page, run):
 
 
 def rows_in_order(page):
-    """A click at the head of the places puts rows in their order, and one more turns it round, which is told to who
-    hears the page. At last they stand by their age again."""
+    """A click at the head of the places puts rows in their order, and one more turns it round, which is announced to
+    who hears the page. At last they stand by their age again."""
     places = "[...document.querySelectorAll('#incident-table td.where')].map((e) => e.textContent.toLowerCase())"
     sort = "document.querySelector('th[aria-sort] button[data-sort=where]')"
-    for told, step in (('ascending', 1), ('descending', -1)):
+    for reported, step in (('ascending', 1), ('descending', -1)):
         page.tab.click_at(sort)
-        page.waits_for(f"{sort}.parentNode.getAttribute('aria-sort') === '{told}'")
+        page.waits_for(f"{sort}.parentNode.getAttribute('aria-sort') === '{reported}'")
         found = page.tab.value(places)
         if found != sorted(found)[::step]:
-            raise AssertionError(f'{told}: {found}')
+            raise AssertionError(f'{reported}: {found}')
     page.tab.click('th button[data-sort=opened]')
 
 
@@ -396,7 +396,7 @@ def marks_turn_nothing_round(page):
 
 
 def focus_outlives_boards(page, command):
-    """The control that has the focus in a part that is drawn anew behind another client's command has it then too."""
+    """The control that has the focus in a part that is drawn anew after another client's command has it then too."""
     record = '#incident=' + page.tab.value("board.incidents[0].incident")
     named = "((e) => e.dataset.id || e.getAttribute('aria-label') || e.textContent)(%s)"
     for view, address, unit, control in (('open', '#open', 'a', '[aria-label^="Sign off"]'),
@@ -424,8 +424,8 @@ def units_are_drawn_behind_a_select(page, command):
 
 
 def refusals_without_words():
-    """An expression of the refusals that the page has no words for, of those that a page is told. It sends no
+    """An expression of the refusals that the page has no words for, of those that a page gets. It sends no
     `replace`, which 38 refuses."""
     numbers = {int(it) for it in re.findall(r'^\| (\d+) \| \w+ \| ', text_of('docs/DOCUMENTS.md'), re.M)}
-    told = sorted(it for it in numbers if it < 40 and it not in (*ASKED_AGAIN, UNHEARD))
-    return f'{json.dumps(told)}.filter((it) => !REFUSED[it])'
+    reported = sorted(it for it in numbers if it < 40 and it not in (*ASKED_AGAIN, UNHEARD))
+    return f'{json.dumps(reported)}.filter((it) => !REFUSED[it])'

@@ -30,7 +30,7 @@ class Steering:
         return struct.unpack_from('=q', self.memory, 8)[0]
 
     def refuse(self, after, count=1):
-        """Has so many requests refused, behind those that come first."""
+        """Has so many requests refused, after those that come first."""
         struct.pack_into('=q', self.memory, 16, self.asked() + after + 1)
         struct.pack_into('=q', self.memory, 24, count)
 

@@ -23,7 +23,7 @@ class ShownGroup(PagedGroup):
         self.tab = self.open()
 
     def tries(self, test):
-        """Runs a trial, behind which the console of the page that stays has told no error."""
+        """Runs a trial, after which the console of the page that stays has shown no error."""
         test(self)
         if self.server:
             same(self.tab.faults(), [], 'console')
@@ -68,7 +68,7 @@ def enter_unanswered(group, primary, where):
     """Opens an incident by keys, which its primary has and can not answer, since the backups stand still."""
     enter(group.tab, where)
     group.probes += 1
-    # behind it another's command waits in vain
+    # after it another's command waits in vain
     reply = ask_once(group.first, primary, PROBE % group.probes, 20)
     same(json.loads(reply)['refusal'], 32, 'a command of another')
     same(group.tab.value(WAITS % json.dumps(where)), True, f'{where}: a command waits')
@@ -76,8 +76,8 @@ def enter_unanswered(group, primary, where):
 
 def each_was_done_once(group, *entered):
     """What was entered stands once each in the list of the node that leads."""
-    told = [it['where'] for it in group.reply_to('{"do":"list","session":96}')['incidents']]
-    same([told.count(it) for it in entered], [1] * len(entered), 'how often each was done')
+    reported = [it['where'] for it in group.reply_to('{"do":"list","session":96}')['incidents']]
+    same([reported.count(it) for it in entered], [1] * len(entered), 'how often each was done')
 
 
 def is_live(tab, seconds=20):

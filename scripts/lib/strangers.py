@@ -51,7 +51,7 @@ class Stranger:
             pass
 
     def hear(self, count, seconds=None):
-        """What was heard once it is so much, or the port closed the connection. It tells whether it did."""
+        """What was heard once it is so much, or the port closed the connection. It says whether it did."""
         end = time.monotonic() + (seconds or self.door.patience)
         while len(self.heard) < count and (left := end - time.monotonic()) > 0:
             self.stream.settimeout(left)
@@ -84,7 +84,7 @@ class Stranger:
 
 
 class Door:
-    """A port, its key, and what holders say there: `said` in a hello, `harmless` and `forged` bytes behind it. What is
+    """A port, its key, and what holders say there: `said` in a hello, `harmless` and `forged` bytes after it. What is
     forged is seen on the board, if it is taken. `patience` is how long a close may take."""
 
     def __init__(self, port, key, harmless, forged, patience, host='127.0.0.1', **said):
@@ -108,7 +108,7 @@ class Door:
         return tag(key or self.key, b'\2', first, nonce)
 
     def records(self, first, nonce, key=None):
-        """Two records of a holder behind a handshake."""
+        """Two records of a holder after a handshake."""
         out = tag(key or self.key, b'\3', first, nonce)
         return record(out, 0, self.forged()) + record(out, 1, self.harmless())
 
@@ -117,14 +117,14 @@ class Door:
 
 
 def dial(door, first, proof_of, key=None):
-    """Says a hello, and behind the challenge this proof, alone and with records of a holder. It is not let in, and
+    """Says a hello, and after the challenge this proof, alone and with records of a holder. It is not let in, and
     heard the challenge at most."""
     for is_alone in (True, False):
         stranger = Stranger(door)
         stranger.say(first)
-        told = stranger.challenge()
-        if len(told) == CHALLENGE:
-            stranger.say(proof_of(told) + (b'' if is_alone else door.records(first, told[:32], key)))
+        got = stranger.challenge()
+        if len(got) == CHALLENGE:
+            stranger.say(proof_of(got) + (b'' if is_alone else door.records(first, got[:32], key)))
         stranger.must_end(CHALLENGE)
 
 
@@ -206,26 +206,26 @@ def another_sender_on_the_way(door):
     """Who stands between changes who dials, and hands on the proof that was meant for the other hello."""
     first = door.hello()
     changed = first[:10] + bytes([door.other_sender]) + first[11:]
-    dial(door, changed, lambda told: door.proof(first, told[:32]))
+    dial(door, changed, lambda got: door.proof(first, got[:32]))
 
 
 # proofs
 
 def another_key(door):
     for key in (os.urandom(32), *door.other_keys):
-        dial(door, first := door.hello(), lambda told: door.proof(first, told[:32], key), key)
+        dial(door, first := door.hello(), lambda got: door.proof(first, got[:32], key), key)
 
 
 def empty_key(door):
-    dial(door, first := door.hello(), lambda told: door.proof(first, told[:32], bytes(32)), bytes(32))
+    dial(door, first := door.hello(), lambda got: door.proof(first, got[:32], bytes(32)), bytes(32))
 
 
 def half_a_proof(door):
-    dial(door, first := door.hello(), lambda told: door.proof(first, told[:32])[:16] + bytes(16))
+    dial(door, first := door.hello(), lambda got: door.proof(first, got[:32])[:16] + bytes(16))
 
 
 def first_bytes_of_a_proof(door):
-    """A proof that is cut, and the records behind it."""
+    """A proof that is cut, and the records after it."""
     for count in (1, 16, 31):
         stranger = Stranger(door)
         stranger.say(first := door.hello())
@@ -237,8 +237,8 @@ def first_bytes_of_a_proof(door):
 
 
 def empty_proof(door):
-    dial(door, door.hello(), lambda told: b'')
-    dial(door, door.hello(), lambda told: bytes(32))
+    dial(door, door.hello(), lambda got: b'')
+    dial(door, door.hello(), lambda got: bytes(32))
     stranger = Stranger(door)
     stranger.say(door.hello())
     stranger.challenge()
@@ -249,20 +249,20 @@ def empty_proof(door):
 def bit_of_a_proof(door):
     for at in range(32):
         first, turn = door.hello(), bytes(at) + bytes([1 << at % 8]) + bytes(31 - at)
-        dial(door, first, lambda told: bytes(a ^ b for a, b in zip(door.proof(first, told[:32]), turn)))
+        dial(door, first, lambda got: bytes(a ^ b for a, b in zip(door.proof(first, got[:32]), turn)))
 
 
 def bit_of_a_nonce(door):
     """Who stands between turns a bit of the hello's nonce, and hands on the proof that was meant for it."""
     for at in range(48, 80):
         first = door.hello()
-        dial(door, first[:at] + bytes([first[at] ^ 4]) + first[at + 1:], lambda told: door.proof(first, told[:32]))
+        dial(door, first[:at] + bytes([first[at] ^ 4]) + first[at + 1:], lambda got: door.proof(first, got[:32]))
 
 
 def reflection(door):
     """The port's own proof, and its whole challenge, are sent back."""
-    dial(door, door.hello(), lambda told: told[32:])
-    dial(door, door.hello(), lambda told: told)
+    dial(door, door.hello(), lambda got: got[32:])
+    dial(door, door.hello(), lambda got: got)
 
 
 def second_connection(door):
@@ -271,8 +271,8 @@ def second_connection(door):
     both = [Stranger(door), Stranger(door)]
     for it in both:
         it.say(first)
-    told = [it.challenge() for it in both]
-    for it, own, other in zip(both, told, reversed(told)):
+    got = [it.challenge() for it in both]
+    for it, own, other in zip(both, got, reversed(got)):
         it.say(other[32:] + door.records(first, own[:32]))
     for it in both:
         it.must_end(CHALLENGE)
@@ -283,13 +283,13 @@ def proof_of_a_second_connection(door):
     other, first = Stranger(door), door.hello()
     other.say(first)
     nonce = other.challenge()[:32]
-    dial(door, first, lambda told: door.proof(first, nonce))
+    dial(door, first, lambda got: door.proof(first, nonce))
     other.leave_off()
     other.must_end(CHALLENGE)
 
 
 def replay(door):
-    """All that a holder sent is sent once more, in one piece and behind the challenge."""
+    """All that a holder sent is sent once more, in one piece and after the challenge."""
     holder = door.holder()
     first, proof = holder.said
     rest = record(holder.out, 0, door.forged()) + record(holder.out, 1, door.forged())
@@ -331,7 +331,7 @@ def behind(door, said, replies=0):
     try:
         while holder.take():
             if holder.taken > replies:
-                raise Found('there is a reply behind a wrong record')
+                raise Found('there is a reply after a wrong record')
     except TimeoutError as fault:
         raise Found('a connection with a wrong record is not closed') from fault
     except (NotProved, OSError):
