@@ -1,7 +1,7 @@
 //! The keys of a node's ports, and the names of the files of which they are read.
 
 ghost use Rattle.std.specs.Prelude.{◌≡◌, true, IfOk, IfErr, is_some, option_map, string_bytes};
-ghost use Rattle.desk_output.specs.declared.telling.TheConstants.{FAILED};
+ghost use Rattle.desk_output.specs.declared.printing.TheConstants.{FAILED};
 
 use desk_file::read_given_key;
 use desk_key::Key;

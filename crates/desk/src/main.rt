@@ -14,7 +14,7 @@ ghost use Rattle.desk_types.specs.Group.{IsGroup};
 ghost use Rattle.desk_types.specs.declared.limits.TheConstants.{SESSION_PORTS};
 ghost use Rattle.desk_connections.specs.Ports.{port_key, BindsPortsOf};
 ghost use Rattle.desk_options.specs.Host.{FitsEpoch};
-ghost use Rattle.desk_output.specs.declared.telling.TheConstants.{FAILED};
+ghost use Rattle.desk_output.specs.declared.printing.TheConstants.{FAILED};
 
 use crate::keys::{FileKey, copied_key, node_keys};
 use crate::past::PastEpochs;
@@ -74,7 +74,7 @@ fn node_log<R: Threads + Wait + Clock + Drop + Copy + Send + Sync + 'static>(
     match start_log(rt, host.alloc(), owner.id, host.stderr()) {
         Ok(thread) => {
             let (peers, sessions) = (peer_port(first, owner.id), session_port(first, owner.id));
-            thread.log().tell(rt, Event::Ports { peers, sessions });
+            thread.log().announce(rt, Event::Ports { peers, sessions });
             Ok(thread)
         }
         Err(_) => Err(refusal_status(&mut host.stderr(), &Refusal::WantOfMemory)),

@@ -1,4 +1,4 @@
--- The links to other nodes, and what is told of them.
+-- The links to other nodes, and what is announced of them.
 use Rattle.std.specs.Prelude.{◌≡◌, ◌≢◌, ◌⊎◌, ℕ, List, Option, None, Some}
 use Rattle.desk_key.specs.Hmac.{key_block}
 use Rattle.desk_admission.specs.Handshake.{hello_bytes}
@@ -16,12 +16,12 @@ use Rattle.desk_connections.specs.declared.links.PeerConnector.TheVariants as co
 use Rattle.desk_connections.specs.declared.links.LinkState.{LinkState}
 use Rattle.desk_connections.specs.declared.links.LinkState.TheVariants as states
 
--- what is told of a link to this node that is so
+-- what is announced of a link to this node that is so
 abbrev pub link_event : ℕ → LinkState → Event
 link_event to states.Up = events.LinkUp to
 link_event to (states.Down why) = events.LinkDown to why
 
--- It is told of a link that is so, and nothing where that was told last.
+-- It is announced of a link that is so, and nothing where that was announced last.
 abbrev pub IsLinkNews : Option LinkState → ℕ → LinkState → Option Event → Type 0
 IsLinkNews announced to state news =
     ((announced ≡ Some state) × (news ≡ None)) ⊎ ((announced ≢ Some state) × (news ≡ Some (link_event to state)))

@@ -82,7 +82,7 @@ fn serve_lines<B: BoardName, I: Read + Drop, O: Write, R: Wait>(
             let mut input = NotedInput::new(input);
             let (session, outcome) = serve_session(rt, alloc, &mut input, output, session, &NoGate);
             if is_of_browser(&input, &outcome) {
-                door.tell_refused(rt, Why::Browser);
+                door.announce_refused(rt, Why::Browser);
             }
             drop(outcome);
             let Session {
@@ -129,7 +129,7 @@ fn serve_keyed<B: BoardName, I: Read + Drop, O: Write + Drop, L: LimitedReads, R
     let stream = match admit(alloc, ends.0, ends.1, keyed, nonce) {
         Ok(stream) => stream,
         Err(fault) => {
-            door.tell_refused(rt, why_not_admitted(fault));
+            door.announce_refused(rt, why_not_admitted(fault));
             return parts;
         }
     };
@@ -163,7 +163,7 @@ pub fn serve_ends<B: BoardName, I: Read + Drop, O: Write + Drop, L: LimitedReads
     match nonce {
         Some(nonce) => serve_keyed(rt, alloc, door, ends, limits, keyed, &nonce, parts),
         None => {
-            door.tell_refused(rt, Why::Handshake);
+            door.announce_refused(rt, Why::Handshake);
             parts
         }
     }
@@ -201,10 +201,10 @@ pub(crate) fn serve_sessions<B: BoardName, R: Wait + Clock + RandomSource>(
     }
 }
 
-/// Tells that who connected was refused, where bytes came that are no packet.
-fn tell_no_packet<R: Wait>(rt: &R, door: &WatchedDoor, outcome: &Result<(), Refusal>) {
+/// Announces that who connected was refused, where bytes came that are no packet.
+fn announce_no_packet<R: Wait>(rt: &R, door: &WatchedDoor, outcome: &Result<(), Refusal>) {
     if matches!(outcome, Err(Refusal::FrameFault)) {
-        door.tell_refused(rt, Why::Packet);
+        door.announce_refused(rt, Why::Packet);
     }
 }
 
@@ -222,7 +222,7 @@ fn take_admitted<I: Read + Drop, O: Write + Drop, R: Wait>(
     let from = stream.from_node();
     let (mut input, output) = stream.into_ends();
     let (sender, outcome) = take_packets(rt, door, alloc, places, Some(from), &mut input, sender);
-    tell_no_packet(rt, door, &outcome);
+    announce_no_packet(rt, door, &outcome);
     drop(outcome);
     drop(output);
     sender
@@ -247,7 +247,7 @@ fn take_keyed<I: Read + Drop, O: Write + Drop, L: LimitedReads, R: Wait>(
     let admitted = match admit(alloc, ends.0, ends.1, keyed, nonce) {
         Ok(admitted) => admitted,
         Err(fault) => {
-            door.tell_refused(rt, why_not_admitted(fault));
+            door.announce_refused(rt, why_not_admitted(fault));
             return sender;
         }
     };
@@ -278,13 +278,13 @@ pub fn take_ends<I: Read + Drop, O: Write + Drop, L: LimitedReads, R: Wait>(
         let _ = limits.limit_reads(PEER_SECONDS);
         let (mut input, _output) = ends;
         let (sender, outcome) = take_packets(rt, door, alloc, places, None, &mut input, sender);
-        tell_no_packet(rt, door, &outcome);
+        announce_no_packet(rt, door, &outcome);
         return sender;
     };
     match nonce {
         Some(nonce) => take_keyed(rt, alloc, places, door, ends, limits, keyed, &nonce, sender),
         None => {
-            door.tell_refused(rt, Why::Handshake);
+            door.announce_refused(rt, Why::Handshake);
             sender
         }
     }

@@ -36,8 +36,8 @@ impl WatchedDoor {
     }
 
     /// Tells that who connected was refused.
-    pub(crate) fn tell_refused<R: Wait>(&self, rt: &R, why: Why) {
-        self.log.tell(rt, Event::Refused { at: self.at, why });
+    pub(crate) fn announce_refused<R: Wait>(&self, rt: &R, why: Why) {
+        self.log.announce(rt, Event::Refused { at: self.at, why });
     }
 }
 

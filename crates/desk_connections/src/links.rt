@@ -74,7 +74,7 @@ impl LinkNews {
         }
     }
 
-    /// What is to be told of a link that is so, where it was not told so last.
+    /// What is to be announced of a link that is so, where it was not announced so last.
     fn news(&mut self, state: LinkState) -> Option<Event>
         ensures news { IsLinkNews self.old.announced self.old.to state result }
         ensures announced { self.new.announced ≡ Some state }
@@ -90,11 +90,11 @@ impl LinkNews {
     }
 
     /// Announces how the link is, where it was not announced so last.
-    fn tell<R: Wait>(&mut self, rt: &R, state: LinkState)
+    fn announce<R: Wait>(&mut self, rt: &R, state: LinkState)
         ensures { self.new.announced ≡ Some state }
     {
         if let Some(event) = self.news(state) {
-            self.log.tell(rt, event);
+            self.log.announce(rt, event);
         }
     }
 
@@ -104,22 +104,22 @@ impl LinkNews {
     }
 
     /// Tells what a try to connect came to, and gives the connection.
-    fn tell_tried<R: Wait, T>(&mut self, rt: &R, tried: Result<T, Why>) -> Option<T>
+    fn announce_tried<R: Wait, T>(&mut self, rt: &R, tried: Result<T, Why>) -> Option<T>
         // What was announced last is what the try came to.
         ensures { MatchResult tried (λ _. self.new.announced ≡ Some states.Up)
             (λ w. self.new.announced ≡ Some (states.Down w)) }
     {
         if self.was_broken {
             self.was_broken = false;
-            self.tell(rt, LinkState::Down(Why::Broken));
+            self.announce(rt, LinkState::Down(Why::Broken));
         }
         match tried {
             Ok(connection) => {
-                self.tell(rt, LinkState::Up);
+                self.announce(rt, LinkState::Up);
                 Some(connection)
             }
             Err(why) => {
-                self.tell(rt, LinkState::Down(why));
+                self.announce(rt, LinkState::Down(why));
                 None
             }
         }
@@ -161,7 +161,7 @@ impl<R: Net<Stream = TcpStream> + Wait + Drop> Connect for OpenPeer<R> {
             Ok(stream) => Ok(stream),
             Err(_) => Err(Why::Connect),
         };
-        self.news.tell_tried(&self.rt, tried)
+        self.news.announce_tried(&self.rt, tried)
     }
 
     // A peer without a key is on this host, to which no link is cut.
@@ -287,7 +287,7 @@ impl<R: Net<Stream = TcpStream> + RandomSource + Clock + Wait + Drop> Connect fo
             Ok(_) => None,
             Err(_) => Instant::now(&self.rt).ok(),
         };
-        self.news.tell_tried(&self.rt, tried)
+        self.news.announce_tried(&self.rt, tried)
     }
 
     fn keeps(&mut self) -> bool {

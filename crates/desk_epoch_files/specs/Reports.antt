@@ -4,7 +4,7 @@ use Rattle.desk_types.specs.declared.refusal.Refusal.{Refusal}
 use Rattle.desk_types.specs.declared.refusal.Refusal.TheVariants as refusals
 use Rattle.desk_types.specs.Refusal.{is_want_of_memory}
 use Rattle.desk_output.specs.Prefixes.{AppendsPrefix}
-use Rattle.desk_output.specs.Telling.{printed_line}
+use Rattle.desk_output.specs.Printing.{printed_line}
 use Rattle.desk_epoch_files.specs.declared.open_error.OpenError.{OpenError}
 use Rattle.desk_epoch_files.specs.Causes.{cause_refusal}
 

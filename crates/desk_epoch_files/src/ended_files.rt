@@ -4,8 +4,8 @@ ghost use Rattle.std.specs.Prelude.{◌≡◌, ◌≤◌, List, ℕ, IsTrue, IsF
 ghost use Rattle.std.specs.Io.KnownBytes.{Keeps};
 ghost use Rattle.sqlite.specs.Held.{Held};
 ghost use Rattle.desk_types.specs.declared.refusal.Refusal.TheVariants as refusals;
-ghost use Rattle.desk_output.specs.Telling.{TellsFirst};
-ghost use Rattle.desk_output.specs.declared.telling.TheConstants.{DONE, FAILED};
+ghost use Rattle.desk_output.specs.Printing.{PrintsFirst};
+ghost use Rattle.desk_output.specs.declared.printing.TheConstants.{DONE, FAILED};
 ghost use Rattle.desk_epoch_files.specs.Additions.{AddsNone};
 ghost use Rattle.desk_epoch_files.specs.Reports.{TellsReplaced, ended_refusal};
 
@@ -79,12 +79,12 @@ impl<D: NamedDatabases> EndedFiles<D> {
         ensures done { result ≡ DONE → IsTrue self.now.is_whole × IsOk self.now.end.outcome }
         ensures failed { IfErr self.now.end.outcome (λ _. result ≡ FAILED) }
         // What is printed first is the line of what ended it, or of `StoreFault` where its file was not closed.
-        ensures printed { IfErr self.now.end.outcome (λ r. TellsFirst (E.contents errors.old) (E.contents errors.new)
+        ensures printed { IfErr self.now.end.outcome (λ r. PrintsFirst (E.contents errors.old) (E.contents errors.new)
             (ended_refusal self.now.files.error self.now.epoch r)) }
         ensures replaced { self.now.end.outcome ≡ Err refusals.NodeStopped
             → TellsReplaced (E.contents errors.old) (E.contents errors.new) }
         ensures unclosed { OnOk self.now.end.outcome (IsFalse self.now.is_whole →
-            TellsFirst (E.contents errors.old) (E.contents errors.new) refusals.StoreFault) }
+            PrintsFirst (E.contents errors.old) (E.contents errors.new) refusals.StoreFault) }
         ensures unprinted { result ≡ DONE → Keeps (E.contents errors.old) (E.contents errors.new) }
     {
         self.files

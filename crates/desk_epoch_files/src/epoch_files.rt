@@ -6,8 +6,8 @@ ghost use Rattle.std.specs.Io.KnownBytes.{Keeps};
 ghost use Rattle.sqlite.specs.Held.{Held};
 ghost use Rattle.desk_types.specs.declared.limits.TheConstants.{LAST_PLACE};
 ghost use Rattle.desk_types.specs.declared.refusal.Refusal.TheVariants as refusals;
-ghost use Rattle.desk_output.specs.Telling.{TellsFirst};
-ghost use Rattle.desk_output.specs.declared.telling.TheConstants.{DONE, FAILED};
+ghost use Rattle.desk_output.specs.Printing.{PrintsFirst};
+ghost use Rattle.desk_output.specs.declared.printing.TheConstants.{DONE, FAILED};
 ghost use Rattle.desk_log.specs.SavedValue.{SavedValue};
 ghost use Rattle.desk_saved.specs.Opening.{IsOpeningRefusal};
 ghost use Rattle.desk_file.specs.Names.{name_in_epoch};
@@ -120,7 +120,7 @@ fn has_ended(saved: &Saved, most: u64) -> bool
 fn replaced_status<E: Write>(errors: &mut E) -> u8
     ensures status { result ≡ FAILED }
     ensures printed { TellsReplaced (E.contents errors.old) (E.contents errors.new) }
-    ensures first { TellsFirst (E.contents errors.old) (E.contents errors.new) refusals.NodeStopped }
+    ensures first { PrintsFirst (E.contents errors.old) (E.contents errors.new) refusals.NodeStopped }
 {
     let more = [Text("desk: another node acts in the place of this one\n")];
     refusal_status_with(errors, &Refusal::NodeStopped, &more)
@@ -132,9 +132,9 @@ fn unnamed_status<E: Write>(errors: &mut E, outcome: &Result<(), Refusal>, is_wh
     ensures status { result ≤ FAILED }
     ensures done { result ≡ DONE → IsTrue is_whole × IsOk outcome.now }
     ensures failed { IfErr outcome.now (λ _. result ≡ FAILED) }
-    ensures printed { IfErr outcome.now (TellsFirst (E.contents errors.old) (E.contents errors.new)) }
+    ensures printed { IfErr outcome.now (PrintsFirst (E.contents errors.old) (E.contents errors.new)) }
     ensures unclosed { OnOk outcome.now (IsFalse is_whole →
-        TellsFirst (E.contents errors.old) (E.contents errors.new) refusals.StoreFault) }
+        PrintsFirst (E.contents errors.old) (E.contents errors.new) refusals.StoreFault) }
     ensures unprinted { result ≡ DONE → Keeps (E.contents errors.old) (E.contents errors.new) }
 {
     match outcome {
@@ -225,7 +225,7 @@ impl<D: NamedDatabases> EpochFiles<D> {
     /// Where that call opened one, it prints the given refusal.
     pub fn refusal_status<E: Write>(&self, errors: &mut E, refusal: &Refusal) -> u8
         ensures status { result ≡ FAILED }
-        ensures printed { TellsFirst (E.contents errors.old) (E.contents errors.new)
+        ensures printed { PrintsFirst (E.contents errors.old) (E.contents errors.new)
             (reported_refusal self.now.error refusal.now) }
         ensures replaced { reported_refusal self.now.error refusal.now ≡ refusals.NodeStopped
             → TellsReplaced (E.contents errors.old) (E.contents errors.new) }
@@ -436,12 +436,12 @@ impl<D: NamedDatabases> EpochFiles<D> {
         ensures status { result ≤ FAILED }
         ensures done { result ≡ DONE → IsTrue is_whole × IsOk end.now.outcome }
         ensures failed { IfErr end.now.outcome (λ _. result ≡ FAILED) }
-        ensures printed { IfErr end.now.outcome (λ r. TellsFirst (E.contents errors.old) (E.contents errors.new)
+        ensures printed { IfErr end.now.outcome (λ r. PrintsFirst (E.contents errors.old) (E.contents errors.new)
             (ended_refusal self.now.error epoch r)) }
         ensures replaced { end.now.outcome ≡ Err refusals.NodeStopped
             → TellsReplaced (E.contents errors.old) (E.contents errors.new) }
         ensures unclosed { OnOk end.now.outcome (IsFalse is_whole →
-            TellsFirst (E.contents errors.old) (E.contents errors.new) refusals.StoreFault) }
+            PrintsFirst (E.contents errors.old) (E.contents errors.new) refusals.StoreFault) }
         ensures unprinted { result ≡ DONE → Keeps (E.contents errors.old) (E.contents errors.new) }
     {
         let file = self.file.as_str();

@@ -2,8 +2,8 @@
 
 ghost use Rattle.std.specs.Prelude.{◌≡◌};
 ghost use Rattle.desk_types.specs.declared.refusal.Refusal.TheVariants as refusals;
-ghost use Rattle.desk_output.specs.Telling.{TellsFirst};
-ghost use Rattle.desk_output.specs.declared.telling.TheConstants.{FAILED};
+ghost use Rattle.desk_output.specs.Printing.{PrintsFirst};
+ghost use Rattle.desk_output.specs.declared.printing.TheConstants.{FAILED};
 ghost use Rattle.desk_saved.specs.Opening.{IsOpeningRefusal};
 ghost use Rattle.desk_file.specs.Names.{name_in_epoch};
 ghost use Rattle.desk_epoch_files.specs.declared.cause.Cause.TheVariants as causes;
@@ -21,7 +21,7 @@ use std::io::Write;
 /// Tells the standard error why no state of a node was opened in its file, and answers the exit status.
 fn state_status<E: Write>(errors: &mut E, file: NodeFile<'_>, end: &FileEnd) -> u8
     ensures status { result ≡ FAILED }
-    ensures printed { TellsFirst (E.contents errors.old) (E.contents errors.new) (unopened_refusal end.now.outcome) }
+    ensures printed { PrintsFirst (E.contents errors.old) (E.contents errors.new) (unopened_refusal end.now.outcome) }
 {
     match &end.outcome {
         Err(Refusal::WantOfMemory | Refusal::WrongFile | Refusal::StoreFault) => {
@@ -43,7 +43,7 @@ fn missing_status<E: Write>(errors: &mut E, name: &str) -> u8
 /// Tells the standard error that a file is that of a node with epochs of so many places, and answers the exit status.
 fn places_status<E: Write>(errors: &mut E, name: &str, places: u64) -> u8
     ensures status { result ≡ FAILED }
-    ensures printed { TellsFirst (E.contents errors.old) (E.contents errors.new) refusals.WrongFile }
+    ensures printed { PrintsFirst (E.contents errors.old) (E.contents errors.new) refusals.WrongFile }
 {
     let more = [
         Text("desk: "),
@@ -94,7 +94,7 @@ impl OpenError {
         owner: &Owner,
     ) -> u8
         ensures status { result ≡ FAILED }
-        ensures printed { TellsFirst (E.contents errors.old) (E.contents errors.new) (cause_refusal self.now.cause) }
+        ensures printed { PrintsFirst (E.contents errors.old) (E.contents errors.new) (cause_refusal self.now.cause) }
         ensures missing { self.now.cause ≡ causes.Missing → TellsMissing (E.contents errors.old) (E.contents errors.new)
             (name_in_epoch file.now self.now.epoch) }
     {

@@ -63,7 +63,7 @@ OwnEntriesRequested = (domain : List ℕ) (rules : Rules) (sizes : ℕ → ℕ) 
     entry_at (own_history domain rules sizes d i t) place ≡ Some e →
     (epoch : ℕ) × IsRequested (d.runs epoch) e
 
--- The logs behind a node are those of the epochs before its own, each whole: of each, somebody has committed the end.
+-- The past logs of a node are those of the epochs before its own, each whole: of each, somebody has committed the end.
 abbrev pub ArePastsWhole : Type 0
 ArePastsWhole = (domain : List ℕ) (rules : Rules) (sizes : ℕ → ℕ) (count : ℕ) (d : Desk) (i t : ℕ) →
     ((epoch : ℕ) → IsGroup (sizes epoch)) → DeskLeads domain rules sizes count first_desk d →

@@ -57,7 +57,7 @@ AreNextLogs domain rules sizes up d past (log ∷ logs) =
     IsNextLog domain rules sizes up d past log × AreNextLogs domain rules sizes up d (past ++ log ∷ []) logs
 
 -- A node is up, and none that is up is in a later epoch. In its epoch, and in those that follow whatever logs end it
--- and the next ones, the request can be asked at those who act and are up. It is new beside the logs behind the node.
+-- and the next ones, the request can be asked at those who act and are up. It is new beside the past logs of the node.
 pub record CanAskMembers (domain : List ℕ) (rules : Rules) (sizes : ℕ → ℕ) (up : ℕ → ℕ → Bool) (d : Desk)
     (entry : Entry) : Type 0
   where
@@ -70,8 +70,9 @@ pub record CanAskMembers (domain : List ℕ) (rules : Rules) (sizes : ℕ → �
         (world_of domain sizes d (length (d.pasts number token ++ logs))) entry
     pub is_new : IsNewFor (joined_logs (d.pasts number token)) (Request number entry)
 
--- A node that acts after these logs and is up has them behind it. It has committed the entry in the epoch after them,
--- and a reply to it is among the answers that came since. The entry stands in what it has committed of all epochs.
+-- A node that acts after these logs and is up has them as its past logs. It has committed the entry in the epoch
+-- after them, and a reply to it is among the answers that came since. The entry stands in what it has committed of all
+-- epochs.
 pub record IsServedByMember (domain : List ℕ) (rules : Rules) (sizes : ℕ → ℕ) (up : ℕ → ℕ → Bool) (early late : Desk)
     (entry : Entry) : Type 0
   where
@@ -96,7 +97,7 @@ abbrev pub MembersNeverStuck : Type 0
 MembersNeverStuck = OfMembers (λ domain rules sizes up d entry. (more : ℕ) × (later : Desk)
     × LeadsAtUp domain rules sizes up more d later × IsServedByMember domain rules sizes up d later entry)
 
--- Where it names a node that is up, such steps lead to a desk in which that node acts, with the request behind it.
+-- Where it names a node that is up, such steps lead to a desk in which that node acts, with the request in a past log.
 abbrev pub NamedNodesAct : Type 0
 NamedNodesAct = OfMembers (λ domain rules sizes up d entry. (named : Replacement) → rules.named entry ≡ Some named →
     up named.node named.token ≡ true → (more : ℕ) × (later : Desk) × LeadsAtUp domain rules sizes up more d later

@@ -1,4 +1,4 @@
--- A desk over epochs whose nodes are replaced: what happened in each epoch, and the logs that each node has behind it.
+-- A desk over epochs whose nodes are replaced: what happened in each epoch, and the past logs of each node.
 use Rattle.std.specs.Prelude.{◌≡◌, ◌≢◌, ◌⊎◌, ◌==◌, ℕ, zero, suc, Bool, true, if◌then◌else◌, List, [], ◌∷◌, ◌++◌}
 use Rattle.std.specs.Prelude.{length, Option, Some, None}
 use Rattle.std.specs.Option.{is_some}
@@ -11,7 +11,7 @@ use Rattle.desk_epoch_node.specs.declared.replacement.Replacement.{Replacement}
 use Rattle.desk_epoch_node.specs.Replacements.{token_with}
 use Rattle.desk_epoch_group.specs.Group.{IsAt}
 
--- the events of each epoch, and of each node, which is a number with a token, the logs of the epochs behind it
+-- the events of each epoch, and of each node, which is a number with a token, the logs of its past epochs
 pub record Desk : Type 0 where
   pub runs : ℕ → List WorldEvent
   pub pasts : ℕ → ℕ → List (List Entry)
@@ -43,7 +43,7 @@ named_token rules number token (e ∷ es) = named_token rules number (with_named
 abbrev pub epoch_in : Desk → ℕ → ℕ → ℕ
 epoch_in d number token = length (d.pasts number token)
 
--- Whether it acts there: the logs behind it name its token last for its number.
+-- Whether it acts there: its past logs name its token last for its number.
 abbrev pub acts_in : Rules → Desk → ℕ → ℕ → Bool
 acts_in rules d number token = named_token rules number 0 (joined_logs (d.pasts number token)) == token
 
@@ -52,7 +52,7 @@ abbrev pub committed_here : List ℕ → (ℕ → ℕ) → Desk → ℕ → ℕ 
 committed_here domain sizes d number token =
     committed_in domain (sizes (epoch_in d number token)) (d.runs (epoch_in d number token)) number
 
--- A node that acts in its epoch deals with an event there. A request is new beside what the node has behind it.
+-- A node that acts in its epoch deals with an event there. A request is new beside the past logs of the node.
 pub record Deals (domain : List ℕ) (rules : Rules) (sizes : ℕ → ℕ) (old new : Desk) : Type 0 where
   pub number : ℕ
   pub token : ℕ
@@ -64,7 +64,7 @@ pub record Deals (domain : List ℕ) (rules : Rules) (sizes : ℕ → ℕ) (old 
   pub there : (epoch : ℕ) → epoch ≢ epoch_in old number token → new.runs epoch ≡ old.runs epoch
   pub pasts_are : (i t : ℕ) → new.pasts i t ≡ old.pasts i t
 
--- A node has one more log behind it.
+-- A node has one more past log.
 pub record HasOneMore (number token : ℕ) (log : List Entry) (old new : Desk) : Type 0 where
   pub here : new.pasts number token ≡ old.pasts number token ++ log ∷ []
   pub there : (i t : ℕ) → (i ≢ number) ⊎ (t ≢ token) → new.pasts i t ≡ old.pasts i t
@@ -102,7 +102,7 @@ DeskLeads domain rules sizes zero old new = old ≡ new
 DeskLeads domain rules sizes (suc count) old new =
     (mid : Desk) × Next domain rules sizes old mid × DeskLeads domain rules sizes count mid new
 
--- What a node has committed in all epochs: the logs behind it, and what it has committed of its own, where it acts
+-- What a node has committed in all epochs: its past logs, and what it has committed of its own, where it acts
 -- there.
 abbrev pub own_history : List ℕ → Rules → (ℕ → ℕ) → Desk → ℕ → ℕ → List Entry
 own_history domain rules sizes d number token =

@@ -11,10 +11,10 @@ ghost use Rattle.desk_epoch_members.specs.NodeAgreement.{TokenHistoriesAgree, To
 ghost use Rattle.desk_epoch_members.specs.NodeAgreement.{TokenIdentifiersStay, TokenRepliesAgree, TokensAreNamed};
 
 /// What is true over every list of steps of a desk in which a number's node is replaced by one with another token, as
-/// often as may be. Only the node acts whose token the logs behind it name for its number. One that does not act takes
-/// whole logs that another has behind it. It does nothing: its clauses are the facts.
+/// often as may be. Only the node acts whose token its past logs name for its number. One that does not act takes
+/// whole past logs of another. It does nothing: its clauses are the facts.
 pub fn members()
-    // Nobody is in an epoch before he has behind him whole logs of all epochs before it.
+    // Nobody is in an epoch before he has whole past logs of all epochs before it.
     ensures whole { ArePastsWhole }
     // Two nodes of one number never act in one epoch.
     ensures one_acts { OneActs }
@@ -43,7 +43,7 @@ pub fn members()
 pub fn never_stuck()
     // Steps serve a request with a new number, whatever logs are full and whoever is named to act after them.
     ensures served { MembersNeverStuck }
-    // Where the request names a node that is up, that node acts after such steps, with the request behind it.
+    // Where the request names a node that is up, that node acts after such steps, with the request in its past logs.
     ensures replaced { NamedNodesAct }
 {}
 

@@ -50,7 +50,7 @@ is_acting Replaced = false
 abbrev pub acts : EpochValue → Bool
 acts e = is_acting (standing_of e)
 
--- It is in an epoch, and what is kept beside it is how much of that it has committed, and what it does there.
+-- It is in an epoch, and what is noted beside it is how much of that it has committed, and what it does there.
 pub record IsKept (e : EpochValue) (cut : Cut) (kept : Standing) : Type 0 where
   pub place : IsInEpoch e
   pub cut_is : IsCut e.most (committed_entries e.node.saved) cut

@@ -22,7 +22,7 @@ has_room log = not (length log == LOG_ENTRIES)
 abbrev pub past_row_at : List Entry → ℕ → PastRow
 past_row_at past place = record { number = number_at past place; place = place }
 
--- what past logs are kept as: a row for each client, how many entries they are, and the replacements that they name
+-- what is held of past logs: a row for each client, how many entries they are, and the replacements that they name
 pub record PastValue : Type 0 where
   pub rows : List (ℕ × PastRow)
   pub length : ℕ

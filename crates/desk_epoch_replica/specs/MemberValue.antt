@@ -21,7 +21,7 @@ pub record MemberValue : Type 0 where
   pub heard : List HeardToken
   pub refused : ℕ
 
--- What is kept of past logs is of some logs.
+-- What it holds of past logs is of some logs.
 abbrev pub HasPast : PastValue → Type 0
 HasPast p = (past : List Entry) × StandFor past p
 

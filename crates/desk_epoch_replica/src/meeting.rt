@@ -200,7 +200,7 @@ impl EpochMember {
         ensures untaken { IfOk result (λ made. takes ≡ false → reported_log made ≡ None) }
         ensures err { OnErr result (self.new ≡ self.old) }
     {
-        // What is kept of past logs is of some logs.
+        // What it holds of past logs is of some logs.
         let _ = &self.node;
         match item {
             EpochItem::Request(entry) => self.request(entry),

@@ -10,11 +10,11 @@ abbrev pub count_lines : ℕ → ℕ → List ℕ → List ℕ
 count_lines time node [] = []
 count_lines time node (count ∷ more) = suppressed_line time node count ++ count_lines time node more
 
--- Counts were told, if anything.
+-- Counts were written, if anything.
 abbrev pub HasAnnouncedCounts : ℕ → ℕ → Option (List ℕ) → Option (List ℕ) → Type 0
 HasAnnouncedCounts time node old new = (counts : List ℕ) × Appends old new (count_lines time node counts)
 
--- Counts were told, and after them the event, if anything: the event only where it gets a line.
+-- Counts were written, and after them the event, if anything: the event only where it gets a line.
 abbrev pub HasAnnouncedEvent : ℕ → ℕ → Event → Bool → Option (List ℕ) → Option (List ℕ) → Type 0
 HasAnnouncedEvent time node event gets old new =
     HasAnnouncedCounts time node old new

@@ -20,7 +20,7 @@ struct Known {
     lost: AtomicU64,
     /// Whether it was announced last that the node lacks entries.
     is_behind: AtomicBool,
-    /// The greatest point of which a packet of another node told.
+    /// The greatest point that a packet of another node names.
     heard: AtomicU64,
     /// The view of the state that was saved last.
     saved_view: AtomicU64,
@@ -102,7 +102,7 @@ impl EventLog {
     }
 
     /// Whether anything is announced.
-    pub fn tells(&self) -> bool {
+    pub fn announces(&self) -> bool {
         self.putting.is_some()
     }
 
@@ -120,8 +120,8 @@ impl EventLog {
         }
     }
 
-    /// Tells an event, where there is room for it. It does not wait for room.
-    pub fn tell<R: Wait>(&self, rt: &R, event: Event) {
+    /// Announces an event, where there is room for it. It does not wait for room.
+    pub fn announce<R: Wait>(&self, rt: &R, event: Event) {
         let Some(Putting { to, known }) = &self.putting else {
             return;
         };
@@ -140,8 +140,7 @@ impl EventLog {
         }
     }
 
-    /// Whether a packet told of a later epoch, or of a later place of this epoch that is committed. False without a
-    /// log.
+    /// Whether a packet named a later epoch, or a later place of this epoch that is committed. False without a log.
     pub fn has_heard_after(&self, epoch: u64, place: u64) -> bool {
         match &self.putting {
             Some(Putting { to: _, known }) => {
@@ -159,7 +158,7 @@ impl EventLog {
         }
     }
 
-    /// Whether the state that was saved last is of this view or a later one, and no packet told of a committed place
+    /// Whether the state that was saved last is of this view or a later one, and no packet named a committed place
     /// after its log. Who asked for entries in this view has got them then. False without a log.
     pub fn has_all_since(&self, view: u64) -> bool {
         match &self.putting {
@@ -172,25 +171,25 @@ impl EventLog {
     }
 
     /// Announces that the node lacks entries after a place, where it was not announced last.
-    pub fn tell_behind<R: Wait>(&self, rt: &R, place: u64) {
+    pub fn announce_behind<R: Wait>(&self, rt: &R, place: u64) {
         if let Some(Putting { to: _, known }) = &self.putting {
             if !known.is_behind.swap(true, Ordering::SeqCst) {
-                self.tell(rt, Event::Behind { place });
+                self.announce(rt, Event::Behind { place });
             }
         }
     }
 
     /// Announces that the node has got entries up to a place, where it was announced last that it lacks some.
-    pub fn tell_level<R: Wait>(&self, rt: &R, place: u64) {
+    pub fn announce_level<R: Wait>(&self, rt: &R, place: u64) {
         if let Some(Putting { to: _, known }) = &self.putting {
             if known.is_behind.swap(false, Ordering::SeqCst) {
-                self.tell(rt, Event::Level { place });
+                self.announce(rt, Event::Level { place });
             }
         }
     }
 
-    /// Tells the last event, and waits for room so long.
-    pub(crate) fn tell_last<R: Wait + Clock>(&self, rt: &R, event: Event, limit: Duration) {
+    /// Announces the last event, and waits for room so long.
+    pub(crate) fn announce_last<R: Wait + Clock>(&self, rt: &R, event: Event, limit: Duration) {
         if let Some(Putting { to, known: _ }) = &self.putting {
             let _ = to.send_timeout(rt, event, limit);
         }

@@ -198,7 +198,7 @@ impl EventThread {
             Ok(()) => "input",
             Err(refusal) => refusal.name(),
         };
-        log.tell_last(rt, Event::End { why }, limit);
+        log.announce_last(rt, Event::End { why }, limit);
         if let Some(ended) = ended {
             let _ = ended.recv_timeout(rt, limit);
         }

@@ -8,7 +8,7 @@ use Rattle.sqlite.specs.declared.error.Error.TheVariants as errors
 use Rattle.sqlite.specs.declared.error.ErrorCode.TheVariants as error_codes
 use Rattle.desk_types.specs.declared.refusal.Refusal.{Refusal}
 use Rattle.desk_types.specs.declared.refusal.Refusal.TheVariants as refusals
-use Rattle.desk_output.specs.Telling.{printed_line}
+use Rattle.desk_output.specs.Printing.{printed_line}
 use Rattle.desk_saved.specs.SchemaRefusals.{refers_to_desk}
 use Rattle.desk_file.specs.declared.faults.Cause.{Cause}
 use Rattle.desk_file.specs.declared.faults.Cause.TheVariants as causes

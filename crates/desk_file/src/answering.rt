@@ -3,8 +3,8 @@
 ghost use Rattle.std.specs.Prelude.{◌≡◌, ◌≤◌, ◌<◌, IfErr, IsOk, OnOk};
 ghost use Rattle.std.specs.Io.KnownBytes.{IsAtEnd};
 ghost use Rattle.desk_types.specs.Group.{IsGroup};
-ghost use Rattle.desk_output.specs.Telling.{TellsFirst};
-ghost use Rattle.desk_output.specs.declared.telling.TheConstants.{DONE, FAILED};
+ghost use Rattle.desk_output.specs.Printing.{PrintsFirst};
+ghost use Rattle.desk_output.specs.declared.printing.TheConstants.{DONE, FAILED};
 ghost use Rattle.desk_file.specs.Closing.{EndsAnswers};
 ghost use Rattle.desk_file.specs.Faults.{unopened_fault};
 
@@ -16,7 +16,7 @@ use crate::names::name_in_epoch;
 use desk_answer::{Answered, answer_database};
 use desk_database::open_database;
 use desk_options::AnswerOptions;
-use desk_output::{CountedInput, tell_cut, tell_no_packet};
+use desk_output::{CountedInput, print_cut, print_no_packet};
 use desk_types::{Owner, Refusal};
 use sqlite::{Alter, Connection, Error, File, FileStore};
 use std::alloc::Global;
@@ -61,7 +61,7 @@ fn opened_status<R: Read, W: Write, E: Write>(
     ensures done { result ≡ DONE → IsOk opened }
     ensures end { result ≡ DONE → IsAtEnd (R.remaining input.new.input) }
     ensures printed { IfErr opened
-        (λ error. TellsFirst (E.contents errors.old) (E.contents errors.new) (unopened_fault error)) }
+        (λ error. PrintsFirst (E.contents errors.old) (E.contents errors.new) (unopened_fault error)) }
 {
     let connection = match opened {
         Ok(connection) => connection,
@@ -71,8 +71,8 @@ fn opened_status<R: Read, W: Write, E: Write>(
     let EndedFile { connection, end } = answer_opened(alloc, owner, connection, input, output);
     let status = closed_status(errors, file, &end, close_file(connection).is_whole);
     match &end.outcome {
-        Err(Refusal::FrameFault) => tell_no_packet(errors, input),
-        Err(Refusal::ReadFault) => tell_cut(errors, input),
+        Err(Refusal::FrameFault) => print_no_packet(errors, input),
+        Err(Refusal::ReadFault) => print_cut(errors, input),
         _ => {}
     }
     status

@@ -1,8 +1,8 @@
 //! The committed commands that the files of a node keep, as document lines on the standard output.
 
 ghost use Rattle.std.specs.Prelude.{◌≡◌, ◌≤◌, IfErr};
-ghost use Rattle.desk_output.specs.Telling.{TellsFirst};
-ghost use Rattle.desk_output.specs.declared.telling.TheConstants.{FAILED};
+ghost use Rattle.desk_output.specs.Printing.{PrintsFirst};
+ghost use Rattle.desk_output.specs.declared.printing.TheConstants.{FAILED};
 
 use crate::epoch_table::is_of_epoch;
 use crate::faults::{shown, unopened_status};
@@ -24,7 +24,7 @@ use std::io::{BufWriter, Write};
 /// Tells the standard error what ended the archive of a file, and answers the exit status.
 fn unarchived_status<E: Write>(errors: &mut E, name: &str, refusal: &Refusal) -> u8
     ensures status { result ≡ FAILED }
-    ensures printed { TellsFirst (E.contents errors.old) (E.contents errors.new) refusal.now }
+    ensures printed { PrintsFirst (E.contents errors.old) (E.contents errors.new) refusal.now }
 {
     let why = match refusal {
         Refusal::WrongFile =>

@@ -6,7 +6,7 @@ ghost use Rattle.std.specs.Io.KnownBytes.{Keeps};
 ghost use Rattle.sqlite.specs.State.{HasCleanDisk};
 ghost use Rattle.sqlite.specs.Held.{state};
 ghost use Rattle.desk_types.specs.declared.refusal.Refusal.TheVariants as refusals;
-ghost use Rattle.desk_output.specs.Telling.{TellsFirst};
+ghost use Rattle.desk_output.specs.Printing.{PrintsFirst};
 ghost use Rattle.desk_naming.specs.Named.{NamesOwner, NamesNobody};
 ghost use Rattle.desk_file.specs.Faults.{IsReferring, NamesReferring, TellsReferring};
 ghost use Rattle.desk_file.specs.Faults.{unopened_fault};
@@ -161,7 +161,7 @@ pub(crate) fn shown(name: &str) -> &str {
 /// Tells the standard error why the database in a file was not opened, and answers the exit status.
 pub fn unopened_status<'a, E: Write>(errors: &mut E, file: &'a str, error: &Error) -> u8
     ensures status { result ≡ FAILED }
-    ensures printed { TellsFirst (E.contents errors.old) (E.contents errors.new) (unopened_fault error.now) }
+    ensures printed { PrintsFirst (E.contents errors.old) (E.contents errors.new) (unopened_fault error.now) }
 {
     match why_unopened(error) {
         None => refusal_status(errors, &Refusal::WantOfMemory),
@@ -182,7 +182,7 @@ pub fn unopened_status<'a, E: Write>(errors: &mut E, file: &'a str, error: &Erro
 /// status.
 pub(crate) fn other_epoch_status<E: Write>(errors: &mut E, file: &str, why: &'static str) -> u8
     ensures status { result ≡ FAILED }
-    ensures printed { TellsFirst (E.contents errors.old) (E.contents errors.new) refusals.WrongFile }
+    ensures printed { PrintsFirst (E.contents errors.old) (E.contents errors.new) refusals.WrongFile }
 {
     let words = [Text("desk: "), Text(shown(file)), Text(why)];
     refusal_status_with(errors, &Refusal::WrongFile, &words)
@@ -214,7 +214,7 @@ fn none_held<'a>(file: NodeFile<'a>, end: &'a str) -> [LinePart<'a>; 8] {
 /// Tells the standard error that a file is another node's, and whose it is, and answers the exit status.
 fn other_node_status<'a, E: Write>(errors: &mut E, file: NodeFile<'a>, owner: &'a NamedOwner) -> u8
     ensures status { result ≡ FAILED }
-    ensures printed { TellsFirst (E.contents errors.old) (E.contents errors.new) refusals.WrongFile }
+    ensures printed { PrintsFirst (E.contents errors.old) (E.contents errors.new) refusals.WrongFile }
 {
     let [desk, name, holds_none, id, of, n, domain, version] = none_held(
         file,
@@ -245,7 +245,7 @@ fn other_node_status<'a, E: Write>(errors: &mut E, file: NodeFile<'a>, owner: &'
 /// Tells the standard error that a file is none of the node's, and whose it is, and answers the exit status.
 fn wrong_file_status<E: Write>(errors: &mut E, file: NodeFile<'_>, cause: &Cause) -> u8
     ensures status { result ≡ FAILED }
-    ensures printed { TellsFirst (E.contents errors.old) (E.contents errors.new) refusals.WrongFile }
+    ensures printed { PrintsFirst (E.contents errors.old) (E.contents errors.new) refusals.WrongFile }
 {
     let end = match cause {
         Cause::OfNode(owner) => return other_node_status(errors, file, owner),
@@ -259,7 +259,7 @@ fn wrong_file_status<E: Write>(errors: &mut E, file: NodeFile<'_>, cause: &Cause
 /// there is one; and answers the exit status.
 fn store_fault_status<'a, E: Write>(errors: &mut E, name: &'a str, cause: &'a Cause) -> u8
     ensures status { result ≡ FAILED }
-    ensures printed { TellsFirst (E.contents errors.old) (E.contents errors.new) refusals.StoreFault }
+    ensures printed { PrintsFirst (E.contents errors.old) (E.contents errors.new) refusals.StoreFault }
     ensures referring { TellsReferring (E.contents errors.old) (E.contents errors.new) cause.now }
 {
     let (desk, name) = (Text("desk: "), Text(shown(name)));
@@ -296,7 +296,7 @@ fn answer_fault_status<E: Write>(
     cause: &Cause,
 ) -> u8
     ensures status { result ≡ FAILED }
-    ensures printed { TellsFirst (E.contents errors.old) (E.contents errors.new) refusal.now }
+    ensures printed { PrintsFirst (E.contents errors.old) (E.contents errors.new) refusal.now }
 {
     match refusal {
         Refusal::WrongFile => wrong_file_status(errors, file, cause),
@@ -317,9 +317,9 @@ pub fn closed_status<E: Write>(
     ensures done { result ≡ DONE → IsTrue closed × IsOk end.now.outcome }
     ensures failed { IfErr end.now.outcome (λ _. result ≡ FAILED) }
     // What is printed first is the line of what ended it, or of `StoreFault` where the file was not closed.
-    ensures printed { IfErr end.now.outcome (TellsFirst (E.contents errors.old) (E.contents errors.new)) }
+    ensures printed { IfErr end.now.outcome (PrintsFirst (E.contents errors.old) (E.contents errors.new)) }
     ensures unclosed { OnOk end.now.outcome (IsFalse closed →
-        TellsFirst (E.contents errors.old) (E.contents errors.new) refusals.StoreFault) }
+        PrintsFirst (E.contents errors.old) (E.contents errors.new) refusals.StoreFault) }
     ensures unprinted { result ≡ DONE → Keeps (E.contents errors.old) (E.contents errors.new) }
 {
     match &end.outcome {

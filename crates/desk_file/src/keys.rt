@@ -3,8 +3,8 @@
 ghost use Rattle.std.specs.Prelude.{◌≡◌, ◌≤◌, ◌⊎◌, length, take, is_some, IfErr, IfOk, IfSome, OnOk};
 ghost use Rattle.std.specs.Io.KnownBytes.{Consumes, IsAtEnd};
 ghost use Rattle.desk_key.specs.KeyText.{IsKeyText};
-ghost use Rattle.desk_output.specs.Telling.{TellsFirst};
-ghost use Rattle.desk_output.specs.declared.telling.TheConstants.{FAILED};
+ghost use Rattle.desk_output.specs.Printing.{PrintsFirst};
+ghost use Rattle.desk_output.specs.declared.printing.TheConstants.{FAILED};
 ghost use Rattle.desk_file.specs.Keys.{no_key_fault};
 ghost use Rattle.desk_file.specs.declared.keys.NoKey.TheVariants as no_keys;
 
@@ -103,7 +103,7 @@ fn no_key_fault(why: NoKey) -> Refusal
 /// Tells the standard error why a file gives no key, and answers the exit status.
 fn no_key_status<E: Write>(errors: &mut E, name: &str, why: NoKey) -> u8
     ensures status { result ≡ FAILED }
-    ensures printed { TellsFirst (E.contents errors.old) (E.contents errors.new) (no_key_fault why) }
+    ensures printed { PrintsFirst (E.contents errors.old) (E.contents errors.new) (no_key_fault why) }
 {
     let refusal = no_key_fault(why);
     let [first, second, third] = match why {

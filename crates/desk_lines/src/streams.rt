@@ -6,7 +6,7 @@ ghost use Rattle.std.specs.Io.KnownBytes.{Appends, Consumes, IsAtEnd, Keeps};
 ghost use Rattle.desk_types.specs.declared.limits.TheConstants.{STREAM_READS};
 ghost use Rattle.desk_types.specs.declared.refusal.Refusal.TheVariants as refusals;
 ghost use Rattle.desk_output.specs.Prefixes.{AppendsPrefix};
-ghost use Rattle.desk_output.specs.Telling.{parts_text};
+ghost use Rattle.desk_output.specs.Printing.{parts_text};
 ghost use Rattle.desk_lines.specs.FailedCalls.{count_after_failure};
 
 use desk_output::{LinePart, ReadCount, flush, write_parts, write_text};

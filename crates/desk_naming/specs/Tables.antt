@@ -39,7 +39,7 @@ desk_table name columns checks tree = record {
   is_counted = false;
 }
 
--- the column of the key, which is kept as NULL
+-- the column of the key, which is stored as NULL
 abbrev pub key_column : List ℕ → Column
 key_column name = record (column_of name Integer) { not_null = false }
 

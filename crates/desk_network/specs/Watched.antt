@@ -14,11 +14,11 @@ view_begun None saved = if is_normal saved then Some saved.view else None
 view_begun (Some last) saved =
     if is_normal saved then (if last == saved.view then None else Some saved.view) else None
 
--- what is told of a view that begins in a group of so many nodes: the view, and who leads in it
+-- what is announced of a view that begins in a group of so many nodes: the view, and who leads in it
 abbrev pub view_event : ℕ → ℕ → Event
 view_event nodes view = events.View view (primary nodes view)
 
--- the view that was told last, where it is told of this state
+-- the view that was announced last, where it is announced of this state
 abbrev pub view_after : Option ℕ → SavedValue → Option ℕ
 view_after last saved = option_or (view_begun last saved) last
 
@@ -26,7 +26,7 @@ view_after last saved = option_or (view_begun last saved) last
 abbrev pub IsUntold : ℕ → ℕ → Option ℕ → Type 0
 IsUntold epoch is before = (is ≡ epoch) × (before ≡ None)
 
--- What is told of an epoch where a log is saved there, and so many entries were saved before: that it begins, once.
+-- What is announced of an epoch where a log is saved there, and so many entries were there: that it begins, once.
 abbrev pub epoch_event : Option ℕ → ℕ → Option Event
 epoch_event None epoch = Some (events.Epoch epoch)
 epoch_event (Some before) epoch = None

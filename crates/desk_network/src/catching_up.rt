@@ -87,7 +87,7 @@ impl<R: Wait> CatchingUp<R> {
         }
         let later = self.log.has_heard_after(packet.epoch, LOG_ENTRIES);
         if let Some(place) = lacks_after(packet, later) {
-            self.log.tell_behind(&self.rt, place);
+            self.log.announce_behind(&self.rt, place);
         }
     }
 }

@@ -7,7 +7,7 @@ ghost use Rattle.desk_network.specs.Ends.{IsServingEnd};
 
 use crate::keeping::{KeeperThread, NodeEnd};
 use crate::node::{NodeEpochs, NodeStart, start_node};
-use crate::serving::tell_ready;
+use crate::serving::write_ready;
 use desk_admission::GroupAddress;
 use desk_connections::{EndFlag, GroupSetup, NodePorts, NodeRuntime, end_with_input};
 use desk_epoch_opening::RefusedOpening;
@@ -144,7 +144,7 @@ where
     let epochs = NodeEpochs { places, token: 0 };
     let keepers = start_nodes(rt, alloc, setup, epochs, &ends)?;
     end_with_input(rt, input)?;
-    let reported = tell_ready(writer);
+    let reported = write_ready(writer);
     if reported.is_err() {
         ends.set();
     }

@@ -47,8 +47,8 @@ struct ServedNode<T, S: StateStore> {
     reported: Result<(), Refusal>,
 }
 
-/// Tells the writer that all ports are bound.
-pub(crate) fn tell_ready<W: Write>(writer: &mut W) -> Result<(), Refusal>
+/// Writes that all ports are bound.
+pub(crate) fn write_ready<W: Write>(writer: &mut W) -> Result<(), Refusal>
     ensures { IfErr result (λ r. r ≡ refusals.WriteFault) }
 {
     write_text(writer, b"ready\n")?;
@@ -92,7 +92,7 @@ where
     };
     let keeper = start_node(rt, alloc, start)?;
     end_with_input(rt, input)?;
-    let reported = tell_ready(writer);
+    let reported = write_ready(writer);
     if reported.is_err() {
         own.set();
     }
@@ -137,7 +137,7 @@ fn unwatched_refusal<T, Q: Drop, R: Drop>(
     RefusedOpening { refusal, stores }
 }
 
-/// Serves as the node whose states are kept by what these stores open, until the standard input ends, a store fails or
+/// Serves as the node whose states are saved by what these stores open, until the standard input ends, a store fails or
 /// the node is replaced; `ready` is written once the node serves. What opens past stores does so in a thread of its
 /// own; the keeper opens them itself where the host refuses that. It ends by `StoreFault` where a store fails, by
 /// `NodeStopped` where another node acts in its place, and by `WriteFault` where `ready` could not be written. Err is a

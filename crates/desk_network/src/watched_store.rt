@@ -96,20 +96,21 @@ impl<R: Clock + Wait> SaveNews<R> {
 
     /// When a save begins, where that is of interest.
     fn begin(&self) -> Option<Instant> {
-        if !self.log.tells() {
+        if !self.log.announces() {
             return None;
         }
         Instant::now(&self.rt).ok()
     }
 
     /// Tells of a save that took long.
-    fn tell_time(&self, begun: Instant) {
+    fn announce_time(&self, begun: Instant) {
         let Ok(passed) = begun.elapsed(&self.rt) else {
             return;
         };
         let milliseconds = u64::try_from(passed.as_millis()).unwrap_or(u64::MAX);
         if milliseconds > SLOW_SAVE_MILLISECONDS {
-            self.log.tell(&self.rt, Event::SlowSave { milliseconds });
+            self.log
+                .announce(&self.rt, Event::SlowSave { milliseconds });
         }
     }
 
@@ -125,16 +126,16 @@ impl<R: Clock + Wait> SaveNews<R> {
     }
 
     /// Tells what is to be announced, if anything.
-    fn tell_news(&self, news: Option<Event>) {
+    fn announce_news(&self, news: Option<Event>) {
         if let Some(event) = news {
-            self.log.tell(&self.rt, event);
+            self.log.announce(&self.rt, event);
         }
     }
 
     /// Tells that the node lacks nothing, where nothing after a place of its epoch was heard of.
-    fn tell_level(&self, place: u64, entries: u64) {
+    fn announce_level(&self, place: u64, entries: u64) {
         if !self.log.has_heard_after(self.epoch, place) {
-            self.log.tell_level(&self.rt, entries);
+            self.log.announce_level(&self.rt, entries);
         }
     }
 
@@ -150,22 +151,22 @@ impl<R: Clock + Wait> SaveNews<R> {
     }
 
     /// Tells of a state that was saved, where there is a log.
-    fn tell_saved(&mut self, begun: Option<Instant>, saved: &Saved) {
-        if !self.log.tells() {
+    fn announce_saved(&mut self, begun: Option<Instant>, saved: &Saved) {
+        if !self.log.announces() {
             return;
         }
         if let Some(begun) = begun {
-            self.tell_time(begun);
+            self.announce_time(begun);
         }
         let (before, entries) = (self.entries, saved.log().len());
         self.log.note_saved(self.epoch, saved.view(), entries);
         let epoch = self.epoch_news(entries);
         let view = self.view_news(saved);
         let after = level_after(before, entries, view.is_some());
-        self.tell_news(epoch);
-        self.tell_news(view);
+        self.announce_news(epoch);
+        self.announce_news(view);
         if let Some(place) = after {
-            self.tell_level(place, entries);
+            self.announce_level(place, entries);
         }
     }
 }
@@ -219,7 +220,7 @@ impl<S: StateStore, R: Clock + Wait> StateStore for WatchedStore<S, R> {
         let begun = self.news.begin();
         let outcome = self.store.save_state(saved, known);
         if outcome.is_ok() {
-            self.news.tell_saved(begun, saved);
+            self.news.announce_saved(begun, saved);
         }
         outcome
     }

@@ -1,8 +1,8 @@
 -- What is printed to standard error where words are refused, and where a program does not run what they ask for.
 use Rattle.std.specs.Prelude.{◌≡◌, ◌++◌, ℕ, List, codes, string_bytes, ⊤}
 use Rattle.desk_types.specs.declared.refusal.Refusal.TheVariants as refusals
-use Rattle.desk_output.specs.Telling.{printed_line}
-use Rattle.desk_output.specs.declared.telling.TheConstants.{FAILED, REFUSED}
+use Rattle.desk_output.specs.Printing.{printed_line}
+use Rattle.desk_output.specs.declared.printing.TheConstants.{FAILED, REFUSED}
 use Rattle.desk_options.specs.declared.command_line.OptionsFault.{OptionsFault}
 use Rattle.desk_options.specs.declared.command_line.OptionsFault.TheVariants as options
 

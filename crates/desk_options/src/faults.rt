@@ -2,7 +2,7 @@
 
 ghost use Rattle.std.specs.Prelude.{◌≡◌};
 ghost use Rattle.desk_output.specs.Prefixes.{AppendsPrefix};
-ghost use Rattle.desk_output.specs.declared.telling.TheConstants.{REFUSED};
+ghost use Rattle.desk_output.specs.declared.printing.TheConstants.{REFUSED};
 ghost use Rattle.desk_options.specs.Faults.{printed_text, options_status, unserved_line};
 
 use crate::command_line::OptionsFault;

@@ -10,7 +10,7 @@ use Rattle.desk_types.specs.Refusal.{refusal_number, name_of}
 use Rattle.desk_types.specs.declared.refusal.Refusal.{Refusal}
 use Rattle.desk_output.proofs.Prefixes.{whole_prefix}
 use Rattle.desk_output.specs.Prefixes.{AppendsPrefix}
-use Rattle.desk_output.specs.Telling.{printed_line, TellsFirst, TellsLine}
+use Rattle.desk_output.specs.Printing.{printed_line, PrintsFirst, PrintsLine}
 
 -- a prefix of the last of two texts is written, and others were to follow
 prefix_after_line : (a b c : Option (List ℕ)) (xs ys zs : List ℕ) → Appends a b xs → AppendsPrefix b c ys →
@@ -67,5 +67,5 @@ unfolding printed_line
 announced_is refusal n name n_is name_is = rw (n_is, name_is) refl
 
 -- a line that is told alone is told first
-pub reported_alone : (a b : Option (List ℕ)) (refusal : Refusal) → TellsLine a b refusal → TellsFirst a b refusal
+pub reported_alone : (a b : Option (List ℕ)) (refusal : Refusal) → PrintsLine a b refusal → PrintsFirst a b refusal
 reported_alone a b refusal printed = ([], prefix_longer a b _ [] printed)

@@ -1,3 +1,3 @@
 pub mod Joined
 pub mod Prefixes
-pub mod Telling
+pub mod Printing

@@ -52,7 +52,7 @@ impl<R: Read> Read for CountedInput<R> {
 }
 
 /// Tells the standard error after which byte a read of the input failed, if one did.
-pub fn tell_unread<E: Write, R: Read>(errors: &mut E, input: &CountedInput<R>) {
+pub fn print_unread<E: Write, R: Read>(errors: &mut E, input: &CountedInput<R>) {
     if input.latest == LatestRead::Fault {
         let _ = writeln!(
             errors,
@@ -63,7 +63,7 @@ pub fn tell_unread<E: Write, R: Read>(errors: &mut E, input: &CountedInput<R>) {
 }
 
 /// Tells the standard error after which byte an input of packets can not be read, or ended inside a packet.
-pub fn tell_cut<E: Write, R: Read>(errors: &mut E, input: &CountedInput<R>) {
+pub fn print_cut<E: Write, R: Read>(errors: &mut E, input: &CountedInput<R>) {
     if input.latest == LatestRead::End {
         let _ = writeln!(
             errors,
@@ -71,13 +71,13 @@ pub fn tell_cut<E: Write, R: Read>(errors: &mut E, input: &CountedInput<R>) {
             input.count
         );
     } else {
-        tell_unread(errors, input);
+        print_unread(errors, input);
     }
 }
 
 /// Tells the standard error in which bytes of an input of packets the last byte of the field stands that is none. Bytes
 /// are counted from 1.
-pub fn tell_no_packet<E: Write, R: Read>(errors: &mut E, input: &CountedInput<R>) {
+pub fn print_no_packet<E: Write, R: Read>(errors: &mut E, input: &CountedInput<R>) {
     let _ = writeln!(
         errors,
         "desk: the fault stands in the bytes from {} to {} of the input",

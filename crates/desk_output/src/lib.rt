@@ -6,12 +6,12 @@
 mod counted_input;
 mod input;
 mod output;
-mod telling;
+mod printing;
 
-pub use counted_input::{CountedInput, tell_cut, tell_no_packet, tell_unread};
+pub use counted_input::{CountedInput, print_cut, print_no_packet, print_unread};
 pub use input::{READ_BYTES, ReadCount};
 pub use output::{flush, write_all, write_text};
-pub use telling::{
+pub use printing::{
     DONE, FAILED, LinePart, REFUSED, outcome_status, refusal_status, refusal_status_with,
     write_parts,
 };

@@ -7,11 +7,11 @@ use Rattle.desk_page.specs.declared.shared.NoReplies.{NoReplies}
 use Rattle.desk_page.specs.declared.shared.NoReplies.TheVariants as faults
 
 -- reply lines tell a refusal; no text within quotes has that mark
-abbrev pub tells_refusal : List ℕ → Bool
-tells_refusal out = is_some (after_mark (codes "\"refusal\":") out)
+abbrev pub is_refusal_line : List ℕ → Bool
+is_refusal_line out = is_some (after_mark (codes "\"refusal\":") out)
 
 -- what became of a text, by the replies to its lines, or why there are none
 abbrev pub outcome_of : Result (List ℕ) NoReplies → CommandOutcome
 outcome_of (Err faults.GivenUp) = outcomes.Unanswered
 outcome_of (Err faults.Busy) = outcomes.Busy
-outcome_of (Ok out) = if tells_refusal out then outcomes.Refused else outcomes.Done
+outcome_of (Ok out) = if is_refusal_line out then outcomes.Refused else outcomes.Done

@@ -6,7 +6,7 @@ ghost use Rattle.desk_metrics.specs.Metrics.{metrics_text};
 ghost use Rattle.http_server.specs.Response.{fields_of};
 ghost use Rattle.desk_page.specs.Answers.{HasText};
 ghost use Rattle.desk_page.specs.Fields.{metrics_fields};
-ghost use Rattle.desk_page.specs.Forwards.{tells_refusal, outcome_of};
+ghost use Rattle.desk_page.specs.Forwards.{is_refusal_line, outcome_of};
 ghost use Rattle.desk_page.specs.Groups.{seen_places};
 
 use crate::fields::add_field;
@@ -21,8 +21,8 @@ use std::alloc::{AllocError, Global};
 use std::time::{Clock, Instant};
 
 /// Whether reply lines tell a refusal.
-fn tells_refusal(out: &[u8]) -> bool
-    ensures { result ≡ tells_refusal out.now }
+fn is_refusal_line(out: &[u8]) -> bool
+    ensures { result ≡ is_refusal_line out.now }
 {
     match after_mark(out, b"\"refusal\":") {
         Some(_number) => true,
@@ -36,7 +36,7 @@ pub(crate) fn outcome_of(found: &Result<Vec<u8>, NoReplies>) -> CommandOutcome
 {
     match found {
         Ok(out) => {
-            if tells_refusal(out.as_slice()) {
+            if is_refusal_line(out.as_slice()) {
                 CommandOutcome::Refused
             } else {
                 CommandOutcome::Done

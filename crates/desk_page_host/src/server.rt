@@ -2,7 +2,7 @@
 
 ghost use Rattle.std.specs.Prelude.{◌≡◌, ◌≤◌, ℕ, IfOk, is_some};
 ghost use Rattle.desk_admission.specs.Hosts.{host_of};
-ghost use Rattle.desk_output.specs.declared.telling.TheConstants.{FAILED};
+ghost use Rattle.desk_output.specs.declared.printing.TheConstants.{FAILED};
 ghost use Rattle.desk_types.specs.Group.{IsGroupSize};
 
 use crate::browsers::serve_browsers;

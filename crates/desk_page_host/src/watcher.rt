@@ -48,7 +48,7 @@ fn node_at(places: &[Option<u64>], greatest: u64) -> Option<u8> {
 }
 
 /// Tells what each node answers, and which the board is to be read from.
-fn tell_nodes<R: NodeRuntime>(
+fn report_nodes<R: NodeRuntime>(
     rt: &R,
     alloc: Global,
     shared: &SharedFollowers<R>,
@@ -75,7 +75,7 @@ pub(crate) fn watch_nodes<R: NodeRuntime>(
 ) {
     for _look in 0..u64::MAX {
         if let Ok(answers) = ask_nodes(rt, alloc, address, nodes) {
-            tell_nodes(rt, alloc, shared, best, answers.as_slice());
+            report_nodes(rt, alloc, shared, best, answers.as_slice());
         }
         thread::sleep(rt, Duration::from_millis(LOOK_MILLISECONDS));
     }

@@ -18,16 +18,16 @@ use Rattle.desk_program.specs.declared.ending.RunEnd.{RunEnd}
 use Rattle.desk_program.specs.declared.ending.RunEnd.TheVariants as ends
 use Rattle.desk_program.specs.Ending.{fault_in, options_end, world_end, IsEndByCalls}
 use Rattle.desk_program.specs.Run.{IsAskedFault, IsWordsFault}
-use Rattle.desk_program.specs.Faults.{TellsFault, printed_world_line}
-use Rattle.desk_output.specs.Telling.{TellsLine}
+use Rattle.desk_program.specs.Faults.{PrintsFault, printed_world_line}
+use Rattle.desk_output.specs.Printing.{PrintsLine}
 
 -- the fault that ended a run, where one did, is told
 abbrev pub Reported : (Refusal → Type 0) → Option (List ℕ) → Option (List ℕ) → RunEnd → Type 0
-Reported P a b end = IfSome (fault_in end) (TellsFault P a b)
+Reported P a b end = IfSome (fault_in end) (PrintsFault P a b)
 
 -- a fault that is given is told
 pub reported_fault : (P : Refusal → Type 0) (a b : Option (List ℕ)) (end : RunEnd) (fault : Refusal) →
-    end ≡ ends.Failed fault → IsStreamFault fault → P fault → TellsLine a b fault → Reported P a b end
+    end ≡ ends.Failed fault → IsStreamFault fault → P fault → PrintsLine a b fault → Reported P a b end
 reported_fault P a b end fault is stream ends printed = subst (Reported P a b) (sym is) (stream, ends, printed)
 
 -- the fault that ended a run of a group of nodes is told
@@ -64,7 +64,7 @@ pub reported_as : (P Q : Refusal → Type 0) (a b : Option (List ℕ)) (end : Ru
     Reported P a b end → Reported Q a b end
 reported_as P Q a b end f t = of (fault_in end) t
   where
-    of : (o : Option Refusal) → IfSome o (TellsFault P a b) → IfSome o (TellsFault Q a b)
+    of : (o : Option Refusal) → IfSome o (PrintsFault P a b) → IfSome o (PrintsFault Q a b)
     of None t = t
     of (Some r) t = (t.0, f r t.1, t.2)
 

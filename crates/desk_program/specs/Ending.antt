@@ -7,7 +7,7 @@ use Rattle.desk_program.specs.declared.ending.RunEnd.{RunEnd}
 use Rattle.desk_program.specs.declared.ending.RunEnd.TheVariants as ends
 use Rattle.desk_script.specs.declared.world.WorldFault.{WorldFault}
 use Rattle.desk_script.specs.declared.world.WorldFault.TheVariants as faults
-use Rattle.desk_output.specs.declared.telling.TheConstants.{DONE, FAILED, REFUSED}
+use Rattle.desk_output.specs.declared.printing.TheConstants.{DONE, FAILED, REFUSED}
 use Rattle.desk_types.specs.declared.refusal.Refusal.{Refusal}
 use Rattle.desk_types.specs.declared.refusal.Refusal.TheVariants as refusals
 

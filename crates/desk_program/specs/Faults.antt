@@ -4,12 +4,12 @@ use Rattle.desk_types.specs.Refusal.{IsStreamFault}
 use Rattle.desk_types.specs.declared.refusal.Refusal.{Refusal}
 use Rattle.desk_script.specs.declared.world.WorldFault.{WorldFault}
 use Rattle.desk_script.specs.declared.world.WorldFault.TheVariants as faults
-use Rattle.desk_output.specs.Telling.{printed_line, TellsLine}
+use Rattle.desk_output.specs.Printing.{printed_line, PrintsLine}
 
 -- The fault is want of memory, or a fault of reading or writing, by which the run can have ended, as the first argument
 -- says it; and known bytes grow by a prefix of its line.
-abbrev pub TellsFault : (Refusal → Type 0) → Option (List ℕ) → Option (List ℕ) → Refusal → Type 0
-TellsFault IsFault old new fault = IsStreamFault fault × IsFault fault × TellsLine old new fault
+abbrev pub PrintsFault : (Refusal → Type 0) → Option (List ℕ) → Option (List ℕ) → Refusal → Type 0
+PrintsFault IsFault old new fault = IsStreamFault fault × IsFault fault × PrintsLine old new fault
 
 -- the line that tells what a line of a script can be
 abbrev pub events_line : List ℕ

@@ -6,7 +6,7 @@ ghost use Rattle.desk_output.specs.Prefixes.{AppendsPrefix};
 ghost use Rattle.desk_program.specs.Ending.{options_end, world_end};
 ghost use Rattle.desk_program.specs.Faults.{printed_world_line};
 ghost use Rattle.desk_program.specs.declared.ending.RunEnd.TheVariants as ends;
-ghost use Rattle.desk_output.specs.Telling.{printed_line};
+ghost use Rattle.desk_output.specs.Printing.{printed_line};
 
 use crate::ending::RunEnd;
 use desk_options::{OptionsFault, fault_status};

@@ -9,7 +9,7 @@ use crate::run::run_words;
 use crate::seed::drawn_seed;
 use desk_lines::{WatchedReader, WatchedWriter};
 use desk_options::{HostRun, OptionsFault, check_hosts_of, fault_status, given_words};
-use desk_output::{CountedInput, REFUSED, tell_unread};
+use desk_output::{CountedInput, REFUSED, print_unread};
 use std::io::BufWriter;
 
 /// The exit status of a run, or what needs files or sockets.
@@ -47,7 +47,7 @@ fn run_between(host: &HostRuntime) -> Result<Result<u8, HostRun>, OptionsFault>
         &mut host.stderr(),
     );
     drop(output);
-    tell_unread(&mut host.stderr(), input.inner());
+    print_unread(&mut host.stderr(), input.inner());
     Ok(status_of(ran))
 }
 

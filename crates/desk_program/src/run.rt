@@ -14,7 +14,7 @@ ghost use Rattle.desk_program.specs.Run.{HasNoEvent, IsDone, IsCutShort, IsUnask
 ghost use Rattle.desk_program.specs.Run.{IsAskedFault, IsWordsFault};
 ghost use Rattle.desk_lines.specs.FailedCalls.{NoneFailed};
 ghost use Rattle.desk_program.specs.Ending.{fault_in, IsEndByCalls};
-ghost use Rattle.desk_program.specs.Faults.{TellsFault};
+ghost use Rattle.desk_program.specs.Faults.{PrintsFault};
 ghost use Rattle.desk_program.specs.declared.ending.RunEnd.TheVariants as ends;
 
 use crate::ending::RunEnd;
@@ -42,7 +42,7 @@ fn replay<R: ReadPieces, W: WriteTexts, E: Write>(
         (λ input. Appends (W.contents writer.old) (W.contents writer.new) (replay_text options.domain input)) }
     ensures failed { OnSome (fault_in result) (IfSome (R.remaining reader.old)
         (λ input. AppendsPrefix (W.contents writer.old) (W.contents writer.new) (replay_text options.domain input))) }
-    ensures printed { IfSome (fault_in result) (TellsFault (IsAskedFault (asked.Replay options)
+    ensures printed { IfSome (fault_in result) (PrintsFault (IsAskedFault (asked.Replay options)
         (R.remaining reader.old) (R.remaining reader.new) (W.contents writer.old) (W.contents writer.new))
         (E.contents errors.old) (E.contents errors.new)) }
     ensures unprinted { result ≡ ends.Done → Keeps (E.contents errors.old) (E.contents errors.new) }
@@ -73,7 +73,7 @@ fn world<R: ReadPieces, W: WriteTexts, E: Write>(
     ensures refused_end { result ≡ ends.Refused → IsAtEnd (R.remaining reader.new) }
     ensures refused { result ≡ ends.Refused → IfSome (R.remaining reader.old) HasNoEvent }
     ensures refused_unwritten { result ≡ ends.Refused → Keeps (W.contents writer.old) (W.contents writer.new) }
-    ensures printed { IfSome (fault_in result) (TellsFault (IsAskedFault (asked.World options)
+    ensures printed { IfSome (fault_in result) (PrintsFault (IsAskedFault (asked.World options)
         (R.remaining reader.old) (R.remaining reader.new) (W.contents writer.old) (W.contents writer.new))
         (E.contents errors.old) (E.contents errors.new)) }
     ensures unprinted { result ≡ ends.Done → Keeps (E.contents errors.old) (E.contents errors.new) }
@@ -92,7 +92,7 @@ fn version<W: WriteTexts, E: Write>(writer: &mut W, errors: &mut E) -> RunEnd
     ensures done { result ≡ ends.Done → Appends (W.contents writer.old) (W.contents writer.new) version_line }
     ensures failed { OnSome (fault_in result)
         (AppendsPrefix (W.contents writer.old) (W.contents writer.new) version_line) }
-    ensures printed { (input rest : Option (List ℕ)) → IfSome (fault_in result) (TellsFault
+    ensures printed { (input rest : Option (List ℕ)) → IfSome (fault_in result) (PrintsFault
         (IsAskedFault asked.Version input rest (W.contents writer.old) (W.contents writer.new))
         (E.contents errors.old) (E.contents errors.new)) }
     ensures unprinted { result ≡ ends.Done → Keeps (E.contents errors.old) (E.contents errors.new) }
@@ -130,7 +130,7 @@ pub fn run_words<R: ReadPieces, W: WriteTexts, E: Write>(
     // After a fault the very fault that is given is printed to standard error, by which the run can have ended, and
     // nothing where all went well.
     ensures printed { IfOk result (λ end. IfSome (fault_in end)
-        (TellsFault (IsWordsFault (map (λ s. s.now) words.now)
+        (PrintsFault (IsWordsFault (map (λ s. s.now) words.now)
         (R.remaining reader.old) (R.remaining reader.new) (W.contents writer.old) (W.contents writer.new))
         (E.contents errors.old) (E.contents errors.new))) }
     ensures unprinted { IfOk result (λ end. end ≡ ends.Done →

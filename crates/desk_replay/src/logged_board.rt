@@ -135,7 +135,7 @@ impl LoggedBoard {
             Admission::Retry { .. } => {
                 let (client, number) = (entry.client, entry.number);
                 drop(entry);
-                self.tell_latest(client, number)
+                self.repeat_latest(client, number)
             }
             Admission::Stale { latest } => {
                 let latest = latest.get();
@@ -175,7 +175,11 @@ impl LoggedBoard {
     }
 
     /// Tells the reply to the client's latest entry.
-    fn tell_latest(&self, client: ClientId, number: RequestNumber) -> Result<Outcome, WantOfMemory>
+    fn repeat_latest(
+        &self,
+        client: ClientId,
+        number: RequestNumber,
+    ) -> Result<Outcome, WantOfMemory>
         requires { IsSome (latest_reply self.now client) }
         ensures { IfOk result (λ o.
             option_map (outcomes.Command client number) (latest_reply self.now client) ≡ Some o) }

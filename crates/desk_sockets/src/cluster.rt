@@ -3,7 +3,7 @@
 ghost use Rattle.std.specs.Prelude.{◌≤◌};
 ghost use Rattle.desk_types.specs.Group.{IsGroup};
 ghost use Rattle.desk_options.specs.Host.{FitsEpoch};
-ghost use Rattle.desk_output.specs.declared.telling.TheConstants.{FAILED};
+ghost use Rattle.desk_output.specs.declared.printing.TheConstants.{FAILED};
 
 use crate::faults::served_status;
 use crate::ports::open_group;

@@ -3,7 +3,7 @@
 ghost use Rattle.std.specs.Prelude.{◌≡◌, ◌≤◌, IsOk, IfErr, OnOk};
 ghost use Rattle.std.specs.Io.KnownBytes.{Keeps};
 ghost use Rattle.desk_types.specs.declared.refusal.Refusal.TheVariants as refusals;
-ghost use Rattle.desk_output.specs.Telling.{TellsFirst, TellsLine};
+ghost use Rattle.desk_output.specs.Printing.{PrintsFirst, PrintsLine};
 ghost use Rattle.desk_sockets.specs.Faults.{refused_fault};
 
 use desk_connections::PortRefused;
@@ -15,7 +15,7 @@ use std::io::Write;
 /// Tells the standard error which port was refused, and answers the exit status.
 pub(crate) fn no_ports_status<E: Write>(errors: &mut E, refused: &PortRefused) -> u8
     ensures status { result ≡ FAILED }
-    ensures printed { TellsFirst (E.contents errors.old) (E.contents errors.new) (refused_fault refused.now) }
+    ensures printed { PrintsFirst (E.contents errors.old) (E.contents errors.new) (refused_fault refused.now) }
 {
     let (port, why) = match refused {
         PortRefused::WantOfMemory => return refusal_status(errors, &Refusal::WantOfMemory),
@@ -30,7 +30,7 @@ pub(crate) fn no_ports_status<E: Write>(errors: &mut E, refused: &PortRefused) -
 pub fn served_status<E: Write>(errors: &mut E, outcome: &Result<(), Refusal>) -> u8
     ensures status { result ≤ FAILED }
     ensures done { result ≡ DONE → IsOk outcome.now }
-    ensures printed { IfErr outcome.now (TellsLine (E.contents errors.old) (E.contents errors.new)) }
+    ensures printed { IfErr outcome.now (PrintsLine (E.contents errors.old) (E.contents errors.new)) }
     ensures unprinted { OnOk outcome.now (Keeps (E.contents errors.old) (E.contents errors.new)) }
 {
     outcome_status(errors, outcome)
@@ -39,7 +39,7 @@ pub fn served_status<E: Write>(errors: &mut E, outcome: &Result<(), Refusal>) ->
 /// Tells the standard error that nobody listens at a port, and answers the exit status.
 pub(crate) fn no_node_status<E: Write>(errors: &mut E, port: u16) -> u8
     ensures status { result ≡ FAILED }
-    ensures printed { TellsFirst (E.contents errors.old) (E.contents errors.new) refusals.ReadFault }
+    ensures printed { PrintsFirst (E.contents errors.old) (E.contents errors.new) refusals.ReadFault }
 {
     let more = [
         Text("desk: no node listens at port "),
@@ -52,7 +52,7 @@ pub(crate) fn no_node_status<E: Write>(errors: &mut E, port: u16) -> u8
 /// Tells the standard error that the node at a port does not show that it holds the key, and answers the exit status.
 pub(crate) fn no_proof_status<E: Write>(errors: &mut E, host: &str, port: u16) -> u8
     ensures status { result ≡ FAILED }
-    ensures printed { TellsFirst (E.contents errors.old) (E.contents errors.new) refusals.ReadFault }
+    ensures printed { PrintsFirst (E.contents errors.old) (E.contents errors.new) refusals.ReadFault }
 {
     let more = [
         Text("desk: the node at "),
@@ -75,7 +75,7 @@ pub(crate) fn sent_status<E: Write>(
     ensures status { result ≤ FAILED }
     ensures done { result ≡ DONE → IsOk outcome.now }
     // What is printed first is the line of what ended them.
-    ensures printed { IfErr outcome.now (TellsFirst (E.contents errors.old) (E.contents errors.new)) }
+    ensures printed { IfErr outcome.now (PrintsFirst (E.contents errors.old) (E.contents errors.new)) }
     ensures unprinted { OnOk outcome.now (Keeps (E.contents errors.old) (E.contents errors.new)) }
 {
     match outcome {
@@ -104,7 +104,7 @@ pub(crate) fn followed_status<E: Write>(
     ensures status { result ≤ FAILED }
     ensures done { result ≡ DONE → IsOk outcome.now }
     // What is printed first is the line of what ended them.
-    ensures printed { IfErr outcome.now (TellsFirst (E.contents errors.old) (E.contents errors.new)) }
+    ensures printed { IfErr outcome.now (PrintsFirst (E.contents errors.old) (E.contents errors.new)) }
     ensures unprinted { OnOk outcome.now (Keeps (E.contents errors.old) (E.contents errors.new)) }
 {
     match outcome {

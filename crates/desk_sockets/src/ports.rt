@@ -1,7 +1,7 @@
 //! The ports of nodes.
 
 ghost use Rattle.std.specs.Prelude.{◌≡◌, IfOk, IfErr};
-ghost use Rattle.desk_output.specs.declared.telling.TheConstants.{FAILED};
+ghost use Rattle.desk_output.specs.declared.printing.TheConstants.{FAILED};
 
 use crate::faults::no_ports_status;
 use desk_connections::{GroupSetup, NodePorts, bind_group};

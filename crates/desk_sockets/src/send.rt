@@ -3,8 +3,8 @@
 ghost use Rattle.std.specs.Prelude.{◌≡◌, ◌≤◌, false, is_some, IfOk, IfErr, IfSome, IsOk};
 ghost use Rattle.std.specs.Io.KnownBytes.{IsAtEnd};
 ghost use Rattle.desk_types.specs.declared.refusal.Refusal.TheVariants as refusals;
-ghost use Rattle.desk_output.specs.Telling.{TellsFirst};
-ghost use Rattle.desk_output.specs.declared.telling.TheConstants.{DONE, FAILED};
+ghost use Rattle.desk_output.specs.Printing.{PrintsFirst};
+ghost use Rattle.desk_output.specs.declared.printing.TheConstants.{DONE, FAILED};
 ghost use Rattle.desk_follow.specs.Streams.{IsSealedUnder};
 ghost use Rattle.desk_follow.specs.Tries.{Answered};
 ghost use Rattle.desk_sockets.specs.Followed.{IsAnswered};
@@ -17,7 +17,7 @@ use desk_admission::{
 use desk_follow::{Follower, GroupNodes, Nodes, follow_lines};
 use desk_key::Key;
 use desk_options::{FollowOptions, SendOptions};
-use desk_output::{CountedInput, refusal_status, tell_unread};
+use desk_output::{CountedInput, print_unread, refusal_status};
 use desk_records::{Opened, Sealed};
 use desk_send::{NodeConnection, send_lines};
 use desk_types::{Refusal, WantOfMemory};
@@ -61,7 +61,7 @@ fn lines_status<I: Read, O: Write, E: Write, B: Read + Drop, W: Write + Drop>(
     let is_broken = connection.is_broken();
     drop(connection);
     let status = sent_status(errors, port, is_broken, &outcome);
-    tell_unread(errors, input);
+    print_unread(errors, input);
     status
 }
 
@@ -82,7 +82,7 @@ fn connected_status<I: Read, O: Write, E: Write>(
     ensures done { result ≡ DONE → IsOk connected }
     ensures end { result ≡ DONE → IsAtEnd (I.remaining input.new.input) }
     ensures printed { IfErr connected
-        (λ _. TellsFirst (E.contents errors.old) (E.contents errors.new) refusals.ReadFault) }
+        (λ _. PrintsFirst (E.contents errors.old) (E.contents errors.new) refusals.ReadFault) }
 {
     let stream = match connected {
         Ok(stream) => stream,
@@ -189,7 +189,7 @@ fn followed_lines_status<I: Read, O: Write, E: Write, N: Nodes + Drop>(
     let (nodes, is_late) = (follower.count, follower.is_late);
     drop(follower);
     let status = followed_status(errors, options.port, nodes, is_late, &outcome);
-    tell_unread(errors, input);
+    print_unread(errors, input);
     status
 }
 

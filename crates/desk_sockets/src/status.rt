@@ -3,7 +3,7 @@
 ghost use Rattle.std.specs.Prelude.{◌≡◌, ◌≤◌, List, length, true, is_some};
 ghost use Rattle.desk_status.specs.Levels.{is_majority_level};
 ghost use Rattle.desk_status.specs.declared.answers.NodeAnswer.{NodeAnswer};
-ghost use Rattle.desk_output.specs.declared.telling.TheConstants.{DONE, FAILED};
+ghost use Rattle.desk_output.specs.declared.printing.TheConstants.{DONE, FAILED};
 
 use desk_admission::{GroupAddress, Hosts};
 use desk_follow::ask_twice;

@@ -2,7 +2,7 @@
 #![tactic(auto)]
 
 mod answers;
-mod telling;
+mod printing;
 
 pub use answers::{NodeAnswer, greatest_place, is_majority_level};
-pub use telling::{status_of, write_status};
+pub use printing::{status_of, write_status};

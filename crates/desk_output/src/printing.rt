@@ -3,7 +3,7 @@
 ghost use Rattle.std.specs.Prelude.{◌≡◌, ◌≤◌, ◌++◌, OnOk, OnErr, IfErr, IsOk, IsErr};
 ghost use Rattle.std.specs.Io.KnownBytes.{Appends, Keeps};
 ghost use Rattle.desk_output.specs.Prefixes.{AppendsPrefix};
-ghost use Rattle.desk_output.specs.Telling.{printed_line, part_text, parts_text, TellsLine};
+ghost use Rattle.desk_output.specs.Printing.{printed_line, part_text, parts_text, PrintsLine};
 
 use crate::output::write_text;
 use desk_types::Refusal;
@@ -101,7 +101,7 @@ pub fn outcome_status<E: Write>(errors: &mut E, outcome: &Result<(), Refusal>) -
     ensures status { result ≤ FAILED }
     ensures done { result ≡ DONE → IsOk outcome.now }
     ensures failed { result ≡ FAILED → IsErr outcome.now }
-    ensures printed { IfErr outcome.now (TellsLine (E.contents errors.old) (E.contents errors.new)) }
+    ensures printed { IfErr outcome.now (PrintsLine (E.contents errors.old) (E.contents errors.new)) }
     ensures unprinted { OnOk outcome.now (Keeps (E.contents errors.old) (E.contents errors.new)) }
 {
     match outcome {

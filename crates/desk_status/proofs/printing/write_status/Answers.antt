@@ -3,7 +3,7 @@ use Rattle.std.specs.Io.KnownBytes.{Appends}
 use Rattle.desk_output.specs.Prefixes.{AppendsPrefix}
 use Rattle.desk_status.specs.Lines.{lines_from}
 use Rattle.desk_status.proofs.Lines.{wrote_more, wrote_part, wrote_whole, wrote_all}
-use Rattle.desk_status.proofs.telling.write_status.Goals as goal
+use Rattle.desk_status.proofs.printing.write_status.Goals as goal
 
 pub loop-node-preserved : goal.loop-node-preserved
 loop-node-preserved g c =

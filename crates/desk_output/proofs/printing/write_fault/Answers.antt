@@ -2,7 +2,7 @@ use Rattle.std.proofs.Common.{subst, OnOk}
 use Rattle.std.specs.Io.KnownBytes.{Appends}
 use Rattle.desk_output.specs.Prefixes.{AppendsPrefix}
 use Rattle.desk_output.proofs.Texts.{announced_is}
-use Rattle.desk_output.proofs.telling.write_fault.Goals as goal
+use Rattle.desk_output.proofs.printing.write_fault.Goals as goal
 
 pub returns-clause-ok : goal.returns-clause-ok
 returns-clause-ok g c =

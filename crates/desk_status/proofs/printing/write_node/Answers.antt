@@ -2,7 +2,7 @@ use Rattle.std.proofs.Common.{subst, OnOk}
 use Rattle.std.specs.Io.KnownBytes.{Appends}
 use Rattle.desk_output.specs.Prefixes.{AppendsPrefix}
 use Rattle.desk_status.proofs.Lines.{down_is, up_is}
-use Rattle.desk_status.proofs.telling.write_node.Goals as goal
+use Rattle.desk_status.proofs.printing.write_node.Goals as goal
 
 pub returns-in-Down-clause-ok : goal.returns-in-Down-clause-ok
 returns-in-Down-clause-ok g c =

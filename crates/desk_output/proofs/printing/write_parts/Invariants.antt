@@ -1,7 +1,7 @@
 use Rattle.std.proofs.Common.{take}
 use Rattle.std.specs.Io.KnownBytes.{Appends}
-use Rattle.desk_output.specs.Telling.{parts_text}
-use Rattle.desk_output.proofs.telling.write_parts.Given as goal
+use Rattle.desk_output.specs.Printing.{parts_text}
+use Rattle.desk_output.proofs.printing.write_parts.Given as goal
 
 abbrev pub invariant-loop-part : goal.invariant-loop-part
 invariant-loop-part g l = Appends (g.W.Write.contents l.fn.writer) (g.W.Write.contents l.writer)

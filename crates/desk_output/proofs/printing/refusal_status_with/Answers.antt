@@ -1,5 +1,5 @@
 use Rattle.desk_output.proofs.Texts.{prefix_after, prefix_longer}
-use Rattle.desk_output.proofs.telling.refusal_status_with.Goals as goal
+use Rattle.desk_output.proofs.printing.refusal_status_with.Goals as goal
 
 pub returns-clause-printed : goal.returns-clause-printed
 returns-clause-printed g c =

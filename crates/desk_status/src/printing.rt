@@ -3,7 +3,7 @@
 ghost use Rattle.std.specs.Prelude.{◌≡◌, ◌≤◌, true, OnOk};
 ghost use Rattle.std.specs.Io.KnownBytes.{Appends};
 ghost use Rattle.desk_output.specs.Prefixes.{AppendsPrefix};
-ghost use Rattle.desk_output.specs.declared.telling.TheConstants.{DONE, FAILED};
+ghost use Rattle.desk_output.specs.declared.printing.TheConstants.{DONE, FAILED};
 ghost use Rattle.desk_status.specs.Levels.{is_majority_level};
 ghost use Rattle.desk_status.specs.Lines.{status_line, status_lines};
 

@@ -3,8 +3,8 @@ use Rattle.std.specs.Prelude.{ℕ, List, ◌++◌, Option, codes, decimal, flat_
 use Rattle.desk_types.specs.Refusal.{refusal_number, name_of}
 use Rattle.desk_types.specs.declared.refusal.Refusal.{Refusal}
 use Rattle.desk_output.specs.Prefixes.{AppendsPrefix}
-use Rattle.desk_output.specs.declared.telling.LinePart.{LinePart}
-use Rattle.desk_output.specs.declared.telling.LinePart.TheVariants as parts
+use Rattle.desk_output.specs.declared.printing.LinePart.{LinePart}
+use Rattle.desk_output.specs.declared.printing.LinePart.TheVariants as parts
 
 -- the line that tells a fault, by its number and its name
 unfoldable pub printed_line : Refusal → List ℕ
@@ -21,9 +21,9 @@ abbrev pub parts_text : List LinePart → List ℕ
 parts_text line = flat_map part_text line
 
 -- known bytes grow by a prefix of the line of the fault
-abbrev pub TellsLine : Option (List ℕ) → Option (List ℕ) → Refusal → Type 0
-TellsLine old new refusal = AppendsPrefix old new (printed_line refusal)
+abbrev pub PrintsLine : Option (List ℕ) → Option (List ℕ) → Refusal → Type 0
+PrintsLine old new refusal = AppendsPrefix old new (printed_line refusal)
 
 -- known bytes grow by a prefix of a text that begins with the line of the fault
-abbrev pub TellsFirst : Option (List ℕ) → Option (List ℕ) → Refusal → Type 0
-TellsFirst old new refusal = (more : List ℕ) × AppendsPrefix old new (printed_line refusal ++ more)
+abbrev pub PrintsFirst : Option (List ℕ) → Option (List ℕ) → Refusal → Type 0
+PrintsFirst old new refusal = (more : List ℕ) × AppendsPrefix old new (printed_line refusal ++ more)

@@ -1,7 +1,7 @@
 use Rattle.std.proofs.Common.{refl}
 use Rattle.desk_output.proofs.Texts.{wrote_part, wrote_all, wrote_whole}
-use Rattle.desk_output.specs.Telling.{part_text}
-use Rattle.desk_output.proofs.telling.write_parts.Goals as goal
+use Rattle.desk_output.specs.Printing.{part_text}
+use Rattle.desk_output.proofs.printing.write_parts.Goals as goal
 
 pub returns-in-Err-clause-printed : goal.returns-in-Err-clause-printed
 returns-in-Err-clause-printed g c =
