@@ -12,6 +12,7 @@ CALLS = 'pwrite64,pwritev,write,writev,ftruncate,fdatasync,fsync,sendto,sendmsg,
 UNFINISHED = ' <unfinished ...>'
 LINE = re.compile(r'^(\d+) +(?:<\.\.\. \w+ resumed>|(\w+)\()(.*)$')
 DONE = re.compile(r'^(.*)\) += (\d+)')
+OPENED = re.compile(r'^AT_FDCWD(?:<[^>]*>)?, "([^"]*)"')
 WORDS = re.compile(r'^\d+<(TCP:\[[^\]]*\]|[^>]*)>(?:, "([^"]*)")?.*?(?:, (\d+))?$')
 TCP = re.compile(r'^TCP:\[[\d.]+:(\d+)->[\d.]+:(\d+)\]$')
 PREPARE, PREPARE_OK, COMMIT = 1, 2, 3
@@ -22,9 +23,9 @@ PLACES_MARK, STEP, HEADER_BYTES = 0xfffe_0000, 0, 13
 PLACE_AT, COMMIT_AT, BODY_AT = {1: 11, 2: 11}, {1: 19, 3: 11, 5: 19, 6: 11, 8: 19}, 45
 
 
-def strace(trace):
-    """The words before a program that have strace note its calls in a file."""
-    return ['strace', '-f', '-qq', '-xx', '-yy', '-s', '1000000', '-o', trace, '-e', f'trace={CALLS}']
+def strace(trace, more=''):
+    """The words before a program that have strace note its calls, and these more, in a file."""
+    return ['strace', '-f', '-qq', '-xx', '-yy', '-s', '1000000', '-o', trace, '-e', f'trace={CALLS}{more}']
 
 
 class Call:
@@ -34,6 +35,8 @@ class Call:
     def __init__(self, name, words, result, began, ended):
         found = WORDS.match(words)
         at, data, last = found.groups() if found else ('', None, None)
+        if name == 'openat' and (found := OPENED.match(words)):
+            at = found[1]
         self.name, self.at, self.began, self.ended = name, text_of(at) if '\\x' in at else at, began, ended
         self.data, self.last = bytes.fromhex((data or '').replace('\\x', ''))[:result], last and int(last)
         ports = TCP.match(self.at)
