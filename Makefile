@@ -27,6 +27,8 @@ bench:
 	scripts/bench/epoch-starts
 	scripts/bench/long-run
 	scripts/bench/page-speed
+	scripts/bench/beside-etcd
+	scripts/bench/beside-rust
 
 # make release VERSION=1.0.0: an archive of the program as LLVM compiles it.
 release:

@@ -92,14 +92,15 @@ def limited(size):
 
 class Program:
     """A run of the program, with a standard input that is held open until `end`. `size` is that past which it writes no
-    file, `more` are variables beside those of this script, and `before` are words before the program."""
+    file, `more` are variables beside those of this script, and `before` are words before the program. `program` is
+    another one in its place."""
 
     # all that were started
     started = []
 
-    def __init__(self, *words, size=None, more=(), before=()):
+    def __init__(self, *words, size=None, more=(), before=(), program=PROGRAM):
         pipe = subprocess.PIPE
-        self.run = subprocess.Popen([*before, PROGRAM, *map(str, words)], stdin=pipe, stdout=pipe, stderr=pipe,
+        self.run = subprocess.Popen([*before, program, *map(str, words)], stdin=pipe, stdout=pipe, stderr=pipe,
                                     preexec_fn=limited(size), env={**os.environ, **dict(more)})
         Program.started.append(self.run)
 
