@@ -222,7 +222,7 @@ becomes_grows n i g new value logs out b grows j = by_node (cases_eq j i)
         (subst (λ (ls : List (List Entry)). Grows (g.logs j) (g.values j) ls (g.values j)) (sym (b.other_logs j ne))
         (prefix_refl (history_of g j)))
 
-act_grows : (n : ℕ) (g new : EpochNodes) (act : EpochAct) → ActLeads n g act new → (j : ℕ) →
+pub act_grows : (n : ℕ) (g new : EpochNodes) (act : EpochAct) → ActLeads n g act new → (j : ℕ) →
     IsLogPrefix (history_of g j) (history_of new j)
 act_grows n g new (Meets i event) (value, step, sent, does, b) =
     becomes_grows n i g new value (logs_after (g.logs i) step) _ b

@@ -27,7 +27,7 @@ use Rattle.desk_epoch_replica.specs.Saves.{IsBeginning, replica_cut}
 use Rattle.desk_threads.specs.declared.handing.Out.{Ghosts as OutGhosts}
 use Rattle.desk_threads.specs.Runs.{AdvancesBetween, Stand, TakesTurn}
 use Rattle.desk_threads.proofs.PublishedPrefixes.{where_true}
-use Rattle.desk_epoch_keepers.specs.Group.{IsFirstReplica, IsStarted, from_saved, in_next_epoch}
+use Rattle.desk_epoch_keepers.specs.Group.{IsStarted, from_saved, in_next_epoch}
 use Rattle.desk_epoch_keepers.specs.Group.{logs_after_begin, logs_after_turn, replica_ghosts, replica_node}
 use Rattle.desk_epoch_keepers.proofs.GroupNodes.{begin_logs, same_logs}
 use Rattle.desk_epoch_keepers.proofs.TurnMoves.{logs_of_turn}
@@ -327,17 +327,16 @@ pub began_front : {T S : Type 0} (g : Ghosts S) (node : EpochValue) (logs : List
 began_front g node logs new started = started_front g node logs new started
 
 -- At first nothing is published.
-pub first_front : {T S : Type 0} (domain : List ℕ) (n most i : ℕ) (r : DeferringReplica T S)
-    (logs : List (List Entry)) (list : List Entry) → IsFirstReplica domain n most i r → r.replica.reported ≡ None →
-    logs ≡ [] → list ≡ [] → IsHistoryFront r logs list
-first_front domain n most i r logs list first none no_logs nothing =
+pub first_front : {T S : Type 0} (r : DeferringReplica T S) (logs : List (List Entry)) (list : List Entry) →
+    r.replica.member.node.past.length ≡ 0 → r.replica.unsaved ≡ false → r.replica.reported ≡ None → logs ≡ [] →
+    list ≡ [] → IsHistoryFront r logs list
+first_front r logs list count saved none no_logs nothing =
     let log : reported_of r.replica ≡ [] = ap log_of_state none in
-    let count : r.replica.member.node.past.length ≡ 0 = ap (λ (m : MemberValue). m.node.past.length) first.member in
     record {
       front = [];
       logs_are = ap joined_logs no_logs ∙ sym log;
       base_is = omega (arith, count, ap length log);
-      saved = first.unsaved;
+      saved = saved;
       shown = (
         joined_logs logs ++ committed_cut (replica_node r),
         ap (λ (es : List Entry). es ++ (joined_logs logs ++ committed_cut (replica_node r))) nothing,

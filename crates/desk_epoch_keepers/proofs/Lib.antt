@@ -6,6 +6,8 @@ pub mod Starts
 pub mod TurnMoves
 pub mod GroupNodes
 pub mod Growing
+pub mod AgreeingLogs
+pub mod LongestLogs
 pub mod Published
 pub mod OneHistory
 pub mod Rows
@@ -13,3 +15,5 @@ pub mod HistoryFronts
 pub mod TurnActs
 pub mod OpenedStarts
 pub mod TokenKeepers
+pub mod OneTokenHistory
+pub mod TokenTurns

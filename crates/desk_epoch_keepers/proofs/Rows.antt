@@ -8,12 +8,13 @@ use Rattle.desk_log.specs.SavedValue.{SavedValue}
 use Rattle.desk_log.specs.declared.state_store.StateStore.{Ghosts}
 use Rattle.desk_log.proofs.Latest.{latest_is_last}
 use Rattle.desk_board.specs.declared.row.Row.{Row}
-use Rattle.desk_board.specs.Execute.{execute, row_for, request_at}
-use Rattle.desk_board.specs.Log.{board_before, reply_at, row, row_at_latest, row_at}
+use Rattle.desk_board.specs.Execute.{execute, row_for, row_of, request_at}
+use Rattle.desk_board.specs.Log.{board_before, board_of, reply_at, row, row_at_latest, row_at}
 use Rattle.desk_board.proofs.LogRows.{rows_are_latest}
 use Rattle.desk_world.specs.Agreement.{IsReplyAt}
 use Rattle.desk_epoch_keepers.specs.Agreement.{HistoryRowsAreReplies, ReadHistoryRepliesAgree}
-use Rattle.desk_epoch_keepers.proofs.Published.{replies_agree}
+use Rattle.desk_epoch_keepers.proofs.AgreeingLogs.{AgreeAndRise, replies_same}
+use Rattle.desk_epoch_keepers.proofs.Published.{two_published}
 
 -- the reply of an entry at its place
 reply_here : List ℕ → List Entry → ℕ → Entry → Reply
@@ -43,17 +44,26 @@ row_reply domain log client r made = by_latest (latest client log) refl made
         let last = latest_is_last client log place is in
         made_row domain log client place r last.entry last.there last.client_is some
 
+pub read_reply : (domain : List ℕ) (log : List Entry) (client : ℕ) (r : Row) →
+    row_of client (board_of domain log) ≡ Some r → IsReplyAt domain log client r.number r.place r.reply
+read_reply domain log client r read = row_reply domain log client r (sym (rows_are_latest domain log client) ∙ read)
+
+-- Two rows that are read of two logs that agree, and are of one number, are of one place, with one reply.
+pub read_same : (domain : List ℕ) (one other : List Entry) → AgreeAndRise one other → (client : ℕ) (r t : Row) →
+    row_of client (board_of domain one) ≡ Some r → row_of client (board_of domain other) ≡ Some t →
+    r.number ≡ t.number → (r.place ≡ t.place) × (r.reply ≡ t.reply)
+read_same domain one other two client r t a b number =
+    replies_same domain one other two client r.number r.place t.place r.reply t.reply
+    (read_reply domain one client r a)
+    (subst (λ (k : ℕ). IsReplyAt domain other client k t.place t.reply) (sym number)
+    (read_reply domain other client t b))
+
 pub rows_are_replies : {T S : Type 0} (may_hold : T → ℕ → SavedValue → Type 0) (h : Ghosts S) →
     HistoryRowsAreReplies may_hold h
-rows_are_replies may_hold h domain n most acts start k i list size is l p client r read =
-    row_reply domain list client r (sym (rows_are_latest domain list client) ∙ read)
+rows_are_replies may_hold h domain n most acts start k i list size is l p = read_reply domain list
 
 pub read_replies_agree : {T S : Type 0} (may_hold : T → ℕ → SavedValue → Type 0) (h : Ghosts S) →
     ReadHistoryRepliesAgree may_hold h
-read_replies_agree may_hold h domain n most first more start early late i j one other size is l m p q client r t a b
-    number =
-    replies_agree may_hold h domain n most first more start early late i j one other size is l m p q client r.number
-    r.place t.place r.reply t.reply
-    (rows_are_replies may_hold h domain n most first start early i one size is l p client r a)
-    (subst (λ (k : ℕ). IsReplyAt domain other client k t.place t.reply) (sym number)
-    (row_reply domain other client t (sym (rows_are_latest domain other client) ∙ b)))
+read_replies_agree may_hold h domain n most first more start early late i j one other size is l m p q =
+    read_same domain one other
+    (two_published may_hold h domain n most first more start early late i j one other size is l m p q)

@@ -1,39 +1,44 @@
--- What the keepers of nodes do, each of which is a number with a token, are acts of a group of such nodes.
-use Rattle.std.proofs.Common.{◌≡◌, ◌≢◌, ◌⊎◌, ◌≤◌, ℕ, List, [], ◌∷◌, ◌++◌, length, take, drop, refl, sym, ap, ◌∙◌}
-use Rattle.std.proofs.Common.{⊎_elim, inl, inr, subst}
+-- What the keepers of nodes do, each of which is a number with a token, are acts of a group of such nodes, and so what
+-- they publish agrees.
+use Rattle.std.proofs.Common.{◌≡◌, ◌≢◌, ◌⊎◌, ℕ, List, [], ◌∷◌, ◌++◌, refl, sym, ap, ◌∙◌, inl, inr, subst}
 use Rattle.std.specs.List.{Contains}
 use Rattle.std.proofs.lemmas.Bool.{cases_eq}
-use Rattle.std.proofs.lemmas.List.{take-append-drop}
 use Rattle.desk_types.specs.declared.command.Entry.{Entry}
 use Rattle.desk_types.specs.declared.epoch_packet.EpochPacket.{EpochPacket}
 use Rattle.desk_log.specs.Entries.{IsLogPrefix, IsRising}
 use Rattle.desk_log.specs.SavedValue.{SavedValue}
 use Rattle.desk_log.specs.declared.state_store.StateStore.{Ghosts}
-use Rattle.desk_log.proofs.Prefixes.{prefix_trans}
+use Rattle.desk_log.proofs.Prefixes.{prefix_refl, prefix_trans}
 use Rattle.desk_log.proofs.Rising.{rising_prefix}
-use Rattle.desk_board.specs.Laws.{names}
-use Rattle.desk_board.specs.Log.{board_of}
-use Rattle.desk_board.proofs.IncidentNames.{names_stay}
 use Rattle.desk_board.proofs.LogBoards.{board_of-consistent}
-use Rattle.desk_world.proofs.CommittedAnswers.{IsReplyAt-later}
-use Rattle.desk_world.proofs.FirstEntries.{one_prefix, take-same}
+use Rattle.desk_board.proofs.LogRows.{rows_are_latest}
 use Rattle.desk_world.proofs.Packets.{Contains-none}
+use Rattle.desk_epochs.specs.Epochs.{joined_logs}
+use Rattle.desk_epoch_node.specs.EpochValue.{EpochValue, committed_cut}
 use Rattle.desk_epoch_group.specs.Group.{EpochAct}
-use Rattle.desk_epoch_members.specs.Nodes.{TokenActsLead, TokenNodes, first_token_nodes, nodes_with, token_history}
+use Rattle.desk_epoch_members.specs.NodeAgreement.{IsTokenGroup}
+use Rattle.desk_epoch_members.specs.Nodes.{TokenActLeads, TokenActsLead, TokenNodes, first_token_nodes, nodes_with}
+use Rattle.desk_epoch_members.specs.Nodes.{token_history}
 use Rattle.desk_epoch_members.proofs.TokenActs.{TokenActsMake, all_with, token_acts}
 use Rattle.desk_epoch_members.proofs.TokenHistories.{token_histories_agree, token_histories_rise}
 use Rattle.desk_epoch_replica.specs.declared.deferring_replica.DeferringReplica.{DeferringReplica}
 use Rattle.desk_epoch_replica.specs.MemberValue.{MemberValue}
 use Rattle.desk_epoch_keepers.specs.Group.{KeeperAct, keeper_history, replica_node}
 use Rattle.desk_epoch_keepers.specs.Members.{AreFirstTokenKeepers, BoardsByTokensAgree, BoardsByTokensConsistent}
-use Rattle.desk_epoch_keepers.specs.Members.{IdentifiersByTokensStay, MakeTokenNodes, OfTwoPublishedByTokens}
-use Rattle.desk_epoch_keepers.specs.Members.{PublishedByTokensAgree, PublishedByTokensRises, RepliesByTokensAgree}
+use Rattle.desk_epoch_keepers.specs.Members.{HistoryByTokensStays, IdentifiersByTokensStay, MakeTokenNodes}
+use Rattle.desk_epoch_keepers.specs.Members.{OfTwoPublishedByTokens, PublishedByTokensAgree, PublishedByTokensRises}
+use Rattle.desk_epoch_keepers.specs.Members.{ReadByTokensAgree, RepliesByTokensAgree, RepliesByTokensStay}
+use Rattle.desk_epoch_keepers.specs.Members.{RowsByTokensAreReplies, RowsByTokensHeld}
 use Rattle.desk_epoch_keepers.specs.Members.{TokenKeeperActLeads, TokenKeepers}
 use Rattle.desk_epoch_keepers.specs.Members.{TokenKeepersMakeNodes, TokenKeepersRun, keepers_with}
+use Rattle.desk_epoch_keepers.proofs.AgreeingLogs.{Agree, AgreeAndRise, boards_same, names_same, prefixes_agree}
+use Rattle.desk_epoch_keepers.proofs.AgreeingLogs.{replies_same, replies_stand}
 use Rattle.desk_epoch_keepers.proofs.GroupNodes.{AnyCame, KeepersGoOn, KeepersStand, act_goes_on, any_act, any_held}
 use Rattle.desk_epoch_keepers.proofs.GroupNodes.{are_nodes, first_stand}
+use Rattle.desk_epoch_keepers.proofs.Growing.{act_grows}
 use Rattle.desk_epoch_keepers.proofs.Moves.{HasLogs}
-use Rattle.desk_epoch_keepers.proofs.Published.{front, history_is, one_reply}
+use Rattle.desk_epoch_keepers.proofs.Published.{front, history_is}
+use Rattle.desk_epoch_keepers.proofs.Rows.{read_reply, read_same}
 use Rattle.desk_epoch_keepers.proofs.TurnMoves.{HeldCome}
 
 -- The keepers of the nodes with each token are these nodes.
@@ -162,51 +167,78 @@ token_keepers_make_nodes {T} {S} may_hold h domain n most first more start early
       are_later = λ t. are_nodes AnyCame most (keepers_with late t) (nodes_with b.later t) (b.stands t);
     }
 
+-- what nodes have committed
+
+-- A node's history goes on, and nodes with other tokens keep theirs.
+nodes_grow : (n token : ℕ) (old new : TokenNodes) (act : EpochAct) → TokenActLeads n token old act new → (i t : ℕ) →
+    IsLogPrefix (token_history old i t) (token_history new i t)
+nodes_grow n token old new act x i t = by_token (cases_eq t token)
+  where
+    by_token : (t ≡ token) ⊎ (t ≢ token) → IsLogPrefix (token_history old i t) (token_history new i t)
+    by_token (inl e) =
+        subst (λ u. IsLogPrefix (token_history old i u) (token_history new i u)) (sym e)
+        (act_grows n (nodes_with old token) (nodes_with new token) act x.leads i)
+    by_token (inr ne) =
+        let same : token_history new i t ≡ token_history old i t =
+        ap (λ (ls : List (List Entry)). joined_logs ls ++ committed_cut (new.values i t)) (x.other_logs i t ne)
+        ∙ ap (λ (e : EpochValue). joined_logs (old.logs i t) ++ committed_cut e) (x.other_values i t ne) in
+        subst (λ (es : List Entry). IsLogPrefix (token_history old i t) es) (sym same)
+        (prefix_refl (token_history old i t))
+
+all_nodes_grow : (n : ℕ) (old new : TokenNodes) (acts : List (ℕ × EpochAct)) → TokenActsLead n old acts new →
+    (i t : ℕ) → IsLogPrefix (token_history old i t) (token_history new i t)
+all_nodes_grow n old new [] same i t =
+    subst (λ (g : TokenNodes). IsLogPrefix (token_history old i t) (token_history g i t)) same
+    (prefix_refl (token_history old i t))
+all_nodes_grow n old new (act ∷ more) (mid, one, rest) i t =
+    prefix_trans (token_history old i t) (token_history mid i t) (token_history new i t)
+    (nodes_grow n act.0 old mid act.1 one i t) (all_nodes_grow n mid new more rest i t)
+
+pub stays_by_tokens : {T S : Type 0} (may_hold : T → ℕ → SavedValue → Type 0) (h : Ghosts S) →
+    HistoryByTokensStays may_hold h
+stays_by_tokens may_hold h domain n most first more start early late i t is l m =
+    let a : MakeTokenNodes domain n most early late =
+    token_keepers_make_nodes may_hold h domain n most first more start early late is l m in
+    subst (λ (xs : List Entry). IsLogPrefix xs (keeper_history (keepers_with late t) i))
+    (sym (history_is (keepers_with early t) (nodes_with a.nodes t) i (a.are t)))
+    (subst (λ (ys : List Entry). IsLogPrefix (token_history a.nodes i t) ys)
+    (sym (history_is (keepers_with late t) (nodes_with a.later t) i (a.are_later t)))
+    (all_nodes_grow n a.nodes a.later a.more a.lead_on i t))
+
+pub token_keepers_agree : {T S : Type 0} (may_hold : T → ℕ → SavedValue → Type 0) (h : Ghosts S) (domain : List ℕ)
+    (n most : ℕ) (first more : List (ℕ × KeeperAct)) (start early late : TokenKeepers T S) (i t j u : ℕ) →
+    IsTokenGroup n most → AreFirstTokenKeepers domain n most start → TokenKeepersRun may_hold h n start first early →
+    TokenKeepersRun may_hold h n early more late →
+    Agree (keeper_history (keepers_with early t) i) (keeper_history (keepers_with late u) j)
+token_keepers_agree may_hold h domain n most first more start early late i t j u group is l m =
+    let a : MakeTokenNodes domain n most early late =
+    token_keepers_make_nodes may_hold h domain n most first more start early late is l m in
+    subst (λ (xs : List Entry). Agree xs (keeper_history (keepers_with late u) j))
+    (sym (history_is (keepers_with early t) (nodes_with a.nodes t) i (a.are t)))
+    (subst (λ (ys : List Entry). Agree (token_history a.nodes i t) ys)
+    (sym (history_is (keepers_with late u) (nodes_with a.later u) j (a.are_later u)))
+    (token_histories_agree domain n most a.acts a.more a.nodes a.later i t j u group a.lead a.lead_on))
+
 -- what is published
 
 pub by_tokens_agree : {T S : Type 0} (may_hold : T → ℕ → SavedValue → Type 0) (h : Ghosts S) →
     PublishedByTokensAgree may_hold h
-by_tokens_agree {T} {S} may_hold h domain n most first more start early late i t j u one other group is l m p q =
-    let a : MakeTokenNodes domain n most early late =
-    token_keepers_make_nodes may_hold h domain n most first more start early late is l m in
-    let xs : List Entry = token_history a.nodes i t in
-    let ys : List Entry = token_history a.later j u in
-    let f : IsLogPrefix one xs =
-    subst (λ (es : List Entry). IsLogPrefix one es)
-    (history_is (keepers_with early t) (nodes_with a.nodes t) i (a.are t))
-    (front one (keeper_history (keepers_with early t) i) p) in
-    let g : IsLogPrefix other ys =
-    subst (λ (es : List Entry). IsLogPrefix other es)
-    (history_is (keepers_with late u) (nodes_with a.later u) j (a.are_later u))
-    (front other (keeper_history (keepers_with late u) j) q) in
-    ⊎_elim
-    (λ x. one_prefix one other ys (prefix_trans one xs ys f x) g)
-    (λ x. one_prefix one other xs f (prefix_trans other ys xs g x))
-    (token_histories_agree domain n most a.acts a.more a.nodes a.later i t j u group a.lead a.lead_on)
-
-first_same : {T S : Type 0} (may_hold : T → ℕ → SavedValue → Type 0) (h : Ghosts S) →
-    OfTwoPublishedByTokens may_hold h (λ domain one other. (k : ℕ) → k ≤ length one → k ≤ length other →
-    take k one ≡ take k other)
-first_same may_hold h domain n most first more start early late i t j u one other group is l m p q k a b =
-    ⊎_elim
-    (λ f. take-same k one other a f)
-    (λ f. sym (take-same k other one b f))
-    (by_tokens_agree may_hold h domain n most first more start early late i t j u one other group is l m p q)
+by_tokens_agree may_hold h domain n most first more start early late i t j u one other group is l m p q =
+    prefixes_agree one (keeper_history (keepers_with early t) i) other (keeper_history (keepers_with late u) j)
+    (front one (keeper_history (keepers_with early t) i) p) (front other (keeper_history (keepers_with late u) j) q)
+    (token_keepers_agree may_hold h domain n most first more start early late i t j u group is l m)
 
 pub boards_by_tokens : {T S : Type 0} (may_hold : T → ℕ → SavedValue → Type 0) (h : Ghosts S) →
     BoardsByTokensAgree may_hold h
-boards_by_tokens may_hold h domain n most first more start early late i t j u one other group is l m p q k a b =
-    ap (board_of domain)
-    (first_same may_hold h domain n most first more start early late i t j u one other group is l m p q k a b)
+boards_by_tokens may_hold h domain n most first more start early late i t j u one other group is l m p q =
+    boards_same domain one other
+    (by_tokens_agree may_hold h domain n most first more start early late i t j u one other group is l m p q)
 
 pub identifiers_by_tokens : {T S : Type 0} (may_hold : T → ℕ → SavedValue → Type 0) (h : Ghosts S) →
     IdentifiersByTokensStay may_hold h
-identifiers_by_tokens may_hold h domain n most first more start early late i t j u one other group is l m p q k a b =
-    let stays = names_stay domain (take k other) (drop k other) in (
-      stays.0,
-      rw (first_same may_hold h domain n most first more start early late i t j u one other group is l m p q k a b)
-          (ap (λ log. names (board_of domain log)) (sym (take-append-drop k other)) ∙ stays.1),
-    )
+identifiers_by_tokens may_hold h domain n most first more start early late i t j u one other group is l m p q =
+    names_same domain one other
+    (by_tokens_agree may_hold h domain n most first more start early late i t j u one other group is l m p q)
 
 pub rises_by_tokens : {T S : Type 0} (may_hold : T → ℕ → SavedValue → Type 0) (h : Ghosts S) →
     PublishedByTokensRises may_hold h
@@ -223,7 +255,15 @@ pub consistent_by_tokens : {T S : Type 0} (may_hold : T → ℕ → SavedValue �
 consistent_by_tokens may_hold h domain n most acts start k i t list group is l p lower short =
     board_of-consistent domain list lower short
 
-runs_join : {T S : Type 0} (may_hold : T → ℕ → SavedValue → Type 0) (h : Ghosts S) (n : ℕ)
+pub rows_by_tokens : {T S : Type 0} (may_hold : T → ℕ → SavedValue → Type 0) (h : Ghosts S) →
+    RowsByTokensHeld may_hold h
+rows_by_tokens may_hold h domain n most acts start k i t list group is l p client = rows_are_latest domain list client
+
+pub rows_by_tokens_are_replies : {T S : Type 0} (may_hold : T → ℕ → SavedValue → Type 0) (h : Ghosts S) →
+    RowsByTokensAreReplies may_hold h
+rows_by_tokens_are_replies may_hold h domain n most acts start k i t list group is l p = read_reply domain list
+
+pub runs_join : {T S : Type 0} (may_hold : T → ℕ → SavedValue → Type 0) (h : Ghosts S) (n : ℕ)
     (first more : List (ℕ × KeeperAct)) (a b c : TokenKeepers T S) → TokenKeepersRun may_hold h n a first b →
     TokenKeepersRun may_hold h n b more c → TokenKeepersRun may_hold h n a (first ++ more) c
 runs_join {T} {S} may_hold h n [] more a b c l m =
@@ -231,17 +271,29 @@ runs_join {T} {S} may_hold h n [] more a b c l m =
 runs_join may_hold h n (act ∷ acts) more a b c (mid, one, rest) m =
     (mid, one, runs_join may_hold h n acts more mid b c rest m)
 
+two_by_tokens : {T S : Type 0} (may_hold : T → ℕ → SavedValue → Type 0) (h : Ghosts S) →
+    OfTwoPublishedByTokens may_hold h (λ domain one other. AgreeAndRise one other)
+two_by_tokens may_hold h domain n most first more start early late i t j u one other group is l m p q = record {
+  agree = by_tokens_agree may_hold h domain n most first more start early late i t j u one other group is l m p q;
+  rises = rises_by_tokens may_hold h domain n most first start early i t one group is l p;
+  other_rises = rises_by_tokens may_hold h domain n most (first ++ more) start late j u other group is
+      (runs_join may_hold h n first more start early late l m) q;
+}
+
 pub replies_by_tokens : {T S : Type 0} (may_hold : T → ℕ → SavedValue → Type 0) (h : Ghosts S) →
     RepliesByTokensAgree may_hold h
-replies_by_tokens may_hold h domain n most first more start early late i t j u one other group is l m p q client number
-    x y r s a b =
-    let rises : IsRising one = rises_by_tokens may_hold h domain n most first start early i t one group is l p in
-    let later_rises : IsRising other =
-    rises_by_tokens may_hold h domain n most (first ++ more) start late j u other group is
-    (runs_join may_hold h n first more start early late l m) q in
-    ⊎_elim
-    (λ f. one_reply domain other client number x y r s later_rises
-    (IsReplyAt-later domain one other client number x r f a) b)
-    (λ f. one_reply domain one client number x y r s rises a
-    (IsReplyAt-later domain other one client number y s f b))
+replies_by_tokens may_hold h domain n most first more start early late i t j u one other group is l m p q =
+    replies_same domain one other
+    (two_by_tokens may_hold h domain n most first more start early late i t j u one other group is l m p q)
+
+pub replies_by_tokens_stay : {T S : Type 0} (may_hold : T → ℕ → SavedValue → Type 0) (h : Ghosts S) →
+    RepliesByTokensStay may_hold h
+replies_by_tokens_stay may_hold h domain n most first more start early late i t j u one other group is l m p q =
+    replies_stand domain one other
     (by_tokens_agree may_hold h domain n most first more start early late i t j u one other group is l m p q)
+
+pub read_by_tokens : {T S : Type 0} (may_hold : T → ℕ → SavedValue → Type 0) (h : Ghosts S) →
+    ReadByTokensAgree may_hold h
+read_by_tokens may_hold h domain n most first more start early late i t j u one other group is l m p q =
+    read_same domain one other
+    (two_by_tokens may_hold h domain n most first more start early late i t j u one other group is l m p q)

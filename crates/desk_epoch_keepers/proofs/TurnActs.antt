@@ -1,28 +1,30 @@
 -- Turns of keepers as what happens in their group, and what they publish.
-use Rattle.std.proofs.Common.{◌≡◌, ◌≢◌, ◌⊎◌, ◌∙◌, ℕ, List, [], ◌∷◌, ◌++◌, ⊎_elim, ap, subst, sym}
+use Rattle.std.proofs.Common.{◌≡◌, ◌≢◌, ◌∙◌, ℕ, true, List, [], ◌∷◌, ◌++◌, ⊎_elim, ap, subst, sym}
 use Rattle.std.proofs.lemmas.Bool.{cases_eq}
 use Rattle.desk_types.specs.declared.command.Entry.{Entry}
 use Rattle.desk_types.specs.declared.epoch_packet.EpochPacket.{EpochPacket}
 use Rattle.desk_log.specs.SavedValue.{SavedValue}
 use Rattle.desk_log.specs.declared.state_store.StateStore.{Ghosts}
+use Rattle.desk_mailbox.specs.declared.item.Item.{Item}
 use Rattle.desk_replica.specs.Saving as saving
 use Rattle.desk_epochs.specs.Epochs.{joined_logs}
 use Rattle.desk_epoch_node.specs.Does.{is_due}
 use Rattle.desk_epoch_node.specs.EpochValue.{committed_cut}
 use Rattle.desk_epoch_replica.specs.declared.deferring_replica.DeferringReplica.{DeferringReplica}
 use Rattle.desk_epoch_replica.specs.DeferringSaves.{deferring_saving}
+use Rattle.desk_epoch_replica.specs.MemberValue.{MemberValue}
 use Rattle.desk_threads.specs.declared.handing.Out.{Ghosts as OutGhosts}
 use Rattle.desk_threads.specs.Replicas.{MeetsItems}
 use Rattle.desk_epoch_keepers.specs.Group.{EpochKeeperBecomes, KeeperAct, Takes, Breaks, BreaksBetween, Advances}
 use Rattle.desk_epoch_keepers.specs.Group.{BreaksAdvanced, Restarts, KeeperActLeads, keeper_history}
 use Rattle.desk_epoch_keepers.specs.Group.{logs_after_begin, logs_after_turn, replica_ghosts, replica_node}
-use Rattle.desk_epoch_keepers.specs.Turns.{PublishingKeepers, PublishingLeads, PublishingRun}
-use Rattle.desk_epoch_keepers.specs.Turns.{Publishes, TurnsAreActs, TurnsPublishHistory, TurnsShowAll}
+use Rattle.desk_epoch_keepers.specs.Turns.{AreFirstPublishing, PublishingKeepers, PublishingLeads, PublishingRun}
+use Rattle.desk_epoch_keepers.specs.Turns.{Publishes, TurnLeads, TurnsAreActs, TurnsPublishHistory, TurnsShowAll}
 use Rattle.desk_epoch_keepers.proofs.HistoryFronts.{IsHistoryFront, advance_front, began_front, first_front}
 use Rattle.desk_epoch_keepers.proofs.HistoryFronts.{starts_front, turn_front, turn_whole}
 
 -- What happens to keepers that publish happens in their group.
-act_leads : {O T S : Type 0} (may_hold : T → ℕ → SavedValue → Type 0) (g : Ghosts S) (out : OutGhosts O)
+pub act_leads : {O T S : Type 0} (may_hold : T → ℕ → SavedValue → Type 0) (g : Ghosts S) (out : OutGhosts O)
     (n items : ℕ) (old new : PublishingKeepers T S) (act : KeeperAct) →
     PublishingLeads may_hold g out n items old act new → KeeperActLeads may_hold g n old.keepers act new.keepers
 act_leads {O} {T} {S} may_hold g out n items old new (Takes i turn) t = (
@@ -67,8 +69,19 @@ turns_are_acts may_hold g out n items (act ∷ more) old new (mid, one, rest) = 
 )
 
 -- What each keeper has published begins its node's history.
-AllFronts : {T S : Type 0} → PublishingKeepers T S → Type 0
+pub AllFronts : {T S : Type 0} → PublishingKeepers T S → Type 0
 AllFronts k = (j : ℕ) → IsHistoryFront (k.keepers.replicas j) (k.keepers.logs j) (k.published j)
+
+-- A keeper of them, and all of them.
+pub front_at : {T S : Type 0} (k : PublishingKeepers T S) → AllFronts k → (j : ℕ) →
+    IsHistoryFront (k.keepers.replicas j) (k.keepers.logs j) (k.published j)
+unfolding AllFronts
+front_at k fronts j = fronts j
+
+pub fronts_of : {T S : Type 0} (k : PublishingKeepers T S) →
+    ((j : ℕ) → IsHistoryFront (k.keepers.replicas j) (k.keepers.logs j) (k.published j)) → AllFronts k
+unfolding AllFronts
+fronts_of k fronts = fronts
 
 -- One keeper changed.
 one_front : {T S : Type 0} (n i : ℕ) (old new : PublishingKeepers T S) (replica : DeferringReplica T S)
@@ -118,7 +131,7 @@ start_front {T} {S} n i old new replica logs packets fronts b p f =
     ∙ ap (λ (r : DeferringReplica T S). joined_logs (new.keepers.logs i) ++ committed_cut (replica_node r))
     (sym b.here)) f)
 
-act_front : {O T S : Type 0} (may_hold : T → ℕ → SavedValue → Type 0) (g : Ghosts S) (out : OutGhosts O)
+pub act_front : {O T S : Type 0} (may_hold : T → ℕ → SavedValue → Type 0) (g : Ghosts S) (out : OutGhosts O)
     (n items : ℕ) (old new : PublishingKeepers T S) (act : KeeperAct) → AllFronts old →
     PublishingLeads may_hold g out n items old act new → AllFronts new
 unfolding AllFronts
@@ -162,29 +175,37 @@ run_front {O} {T} {S} may_hold g out n items old new [] fronts same =
 run_front may_hold g out n items old new (act ∷ more) fronts (mid, one, rest) =
     run_front may_hold g out n items mid new more (act_front may_hold g out n items old mid act fronts one) rest
 
+first_fronts : {T S : Type 0} (domain : List ℕ) (n most : ℕ) (k : PublishingKeepers T S) →
+    AreFirstPublishing domain n most k → AllFronts k
+first_fronts domain n most k first = fronts_of k
+    (λ j. first_front (k.keepers.replicas j) (k.keepers.logs j) (k.published j)
+    (ap (λ (m : MemberValue). m.node.past.length) (first.keepers.replicas j).member) (first.keepers.replicas j).unsaved
+    (first.none j) (first.keepers.logs j) (first.nothing j))
+
 pub turns_publish_history : {O T S : Type 0} (may_hold : T → ℕ → SavedValue → Type 0) (g : Ghosts S)
     (out : OutGhosts O) → TurnsPublishHistory may_hold g out
-unfolding AllFronts
-turns_publish_history {O} {T} {S} may_hold g out domain n most items acts start k i first run =
-    let at : AllFronts start =
-    λ j. first_front domain n most j (start.keepers.replicas j) (start.keepers.logs j) (start.published j)
-    (first.keepers.replicas j) (first.none j) (first.keepers.logs j) (first.nothing j) in
-    (run_front may_hold g out n items start k acts at run i).shown
+turns_publish_history may_hold g out domain n most items acts start k i first run =
+    (front_at k
+    (run_front may_hold g out n items start k acts (first_fronts domain n most start first) run) i).shown
 
-pub turns_show_all : {O T S : Type 0} (may_hold : T → ℕ → SavedValue → Type 0) (g : Ghosts S) (out : OutGhosts O) →
-    TurnsShowAll may_hold g out
-unfolding AllFronts
-turns_show_all {O} {T} {S} may_hold g out domain n most items acts start old new i turn first run t all =
-    let at : AllFronts old =
-    run_front may_hold g out n items start old acts
-    (λ j. first_front domain n most j (start.keepers.replicas j) (start.keepers.logs j) (start.published j)
-    (first.keepers.replicas j) (first.none j) (first.keepers.logs j) (first.nothing j)) run in
+-- Where it says after a turn that all is published, that is all that its node has committed.
+pub turn_shows_all : {O T S : Type 0} (may_hold : T → ℕ → SavedValue → Type 0) (g : Ghosts S) (out : OutGhosts O)
+    (n items i : ℕ) (old new : PublishingKeepers T S) (turn : List Item) → AllFronts old →
+    (t : TurnLeads may_hold g out n items i old turn new) → t.after.all_published ≡ true →
+    new.published i ≡ keeper_history new.keepers i
+turn_shows_all {O} {T} {S} may_hold g out n items i old new turn fronts t all =
     let f =
     stand_front t.before.replica (old.keepers.replicas i) (old.keepers.logs i) t.before.published (old.published i)
-    t.stands.replica_is t.stands.published_is (at i) in
+    t.stands.replica_is t.stands.published_is (front_at old fronts i) in
     t.publishes.here
     ∙ (turn_whole may_hold g out items turn t.before t.after (old.keepers.logs i) f t.took all
     ∙ (ap (λ (ls : List (List Entry)). joined_logs ls ++ committed_cut (replica_node t.after.replica))
     (sym t.becomes.logs_are)
     ∙ ap (λ (r : DeferringReplica T S). joined_logs (new.keepers.logs i) ++ committed_cut (replica_node r))
     (sym t.becomes.here)))
+
+pub turns_show_all : {O T S : Type 0} (may_hold : T → ℕ → SavedValue → Type 0) (g : Ghosts S) (out : OutGhosts O) →
+    TurnsShowAll may_hold g out
+turns_show_all may_hold g out domain n most items acts start old new i turn first run t all =
+    turn_shows_all may_hold g out n items i old new turn
+    (run_front may_hold g out n items start old acts (first_fronts domain n most start first) run) t all

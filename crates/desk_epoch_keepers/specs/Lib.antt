@@ -3,3 +3,4 @@ pub mod Agreement
 pub mod Turns
 pub mod Starts
 pub mod Members
+pub mod TokenTurns

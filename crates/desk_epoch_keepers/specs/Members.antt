@@ -1,5 +1,5 @@
 -- Groups of keepers of nodes over epochs, each a number with a token, and what holds in them.
-use Rattle.std.specs.Prelude.{◌≡◌, ◌≢◌, ◌⊎◌, ◌<◌, ◌≤◌, ℕ, List, [], ◌∷◌, ◌++◌, length, take, false}
+use Rattle.std.specs.Prelude.{◌≡◌, ◌≢◌, ◌⊎◌, ◌<◌, ◌≤◌, ℕ, List, [], ◌∷◌, ◌++◌, length, take, false, Some}
 use Rattle.desk_types.specs.Identifier.{IsLowerDomain}
 use Rattle.desk_types.specs.declared.command.Entry.{Entry}
 use Rattle.desk_types.specs.declared.epoch_packet.EpochPacket.{EpochPacket}
@@ -7,9 +7,11 @@ use Rattle.desk_types.specs.declared.reply.Reply.{Reply}
 use Rattle.desk_log.specs.Entries.{IsLogPrefix, IsRising}
 use Rattle.desk_log.specs.SavedValue.{SavedValue}
 use Rattle.desk_log.specs.declared.state_store.StateStore.{Ghosts}
+use Rattle.desk_board.specs.declared.row.Row.{Row}
 use Rattle.desk_board.specs.Consistency.{IsConsistent}
+use Rattle.desk_board.specs.Execute.{row_of}
 use Rattle.desk_board.specs.Laws.{names, own_places}
-use Rattle.desk_board.specs.Log.{board_of}
+use Rattle.desk_board.specs.Log.{board_of, row}
 use Rattle.desk_world.specs.Agreement.{IsReplyAt}
 use Rattle.desk_epoch_group.specs.Group.{EpochAct}
 use Rattle.desk_epoch_members.specs.NodeAgreement.{IsTokenGroup}
@@ -17,7 +19,7 @@ use Rattle.desk_epoch_members.specs.Nodes.{TokenActsLead, TokenNodes, first_toke
 use Rattle.desk_epoch_replica.specs.declared.deferring_replica.DeferringReplica.{DeferringReplica}
 use Rattle.desk_epoch_replica.specs.MemberValue.{new_member}
 use Rattle.desk_epoch_keepers.specs.Agreement.{KeepersAreNodes}
-use Rattle.desk_epoch_keepers.specs.Group.{EpochKeepers, KeeperAct, KeeperActLeads, MayPublishHistory}
+use Rattle.desk_epoch_keepers.specs.Group.{EpochKeepers, KeeperAct, KeeperActLeads, MayPublishHistory, keeper_history}
 
 -- the replica of the keeper of each number and token, the logs of its past, and all packets that were ever handed out,
 -- each with the number that it was sent to
@@ -83,6 +85,24 @@ TokenKeepersMakeNodes {T} {S} may_hold g = (domain : List ℕ) (n most : ℕ) (f
     TokenKeepersRun may_hold g n start first early → TokenKeepersRun may_hold g n early more late →
     MakeTokenNodes domain n most early late
 
+-- What a node has committed of all epochs stays committed there.
+abbrev pub HistoryByTokensStays : {T S : Type 0} → (T → ℕ → SavedValue → Type 0) → Ghosts S → Type 0
+HistoryByTokensStays {T} {S} may_hold g = (domain : List ℕ) (n most : ℕ) (first more : List (ℕ × KeeperAct))
+    (start early late : TokenKeepers T S) (i t : ℕ) → AreFirstTokenKeepers domain n most start →
+    TokenKeepersRun may_hold g n start first early → TokenKeepersRun may_hold g n early more late →
+    IsLogPrefix (keeper_history (keepers_with early t) i) (keeper_history (keepers_with late t) i)
+
+-- There is one log: all that nodes of any number and token may have published, in whatever epochs, is a prefix of it,
+-- and later of it with more entries after it.
+abbrev pub OneHistoryByTokens : {T S : Type 0} → (T → ℕ → SavedValue → Type 0) → Ghosts S → Type 0
+OneHistoryByTokens {T} {S} may_hold g = (domain : List ℕ) (n most : ℕ) (first more : List (ℕ × KeeperAct))
+    (start early late : TokenKeepers T S) → IsTokenGroup n most → AreFirstTokenKeepers domain n most start →
+    TokenKeepersRun may_hold g n start first early → TokenKeepersRun may_hold g n early more late →
+    (log : List Entry) × (later : List Entry)
+    × ((i t : ℕ) (list : List Entry) → MayPublishHistory (keepers_with early t) i list → IsLogPrefix list log)
+    × ((i t : ℕ) (list : List Entry) → MayPublishHistory (keepers_with late t) i list →
+    IsLogPrefix list (log ++ later))
+
 -- It holds of what any node may have published at any time, and any node then or later, the same or another, of the
 -- same number or another.
 abbrev pub OfTwoPublishedByTokens : {T S : Type 0} → (T → ℕ → SavedValue → Type 0) → Ghosts S →
@@ -115,6 +135,20 @@ RepliesByTokensAgree may_hold g = OfTwoPublishedByTokens may_hold g
     (λ domain one other. (client number p q : ℕ) (r s : Reply) → IsReplyAt domain one client number p r →
     IsReplyAt domain other client number q s → (p ≡ q) × (r ≡ s))
 
+-- A reply stands at its place in what any node publishes that goes so far.
+abbrev pub RepliesByTokensStay : {T S : Type 0} → (T → ℕ → SavedValue → Type 0) → Ghosts S → Type 0
+RepliesByTokensStay may_hold g = OfTwoPublishedByTokens may_hold g (λ domain one other. (client number place : ℕ)
+    (reply : Reply) → (place ≤ length other → IsReplyAt domain one client number place reply →
+    IsReplyAt domain other client number place reply)
+    × (place ≤ length one → IsReplyAt domain other client number place reply →
+    IsReplyAt domain one client number place reply))
+
+-- Sessions of any two nodes that ever read one number of a client read one reply to it.
+abbrev pub ReadByTokensAgree : {T S : Type 0} → (T → ℕ → SavedValue → Type 0) → Ghosts S → Type 0
+ReadByTokensAgree may_hold g = OfTwoPublishedByTokens may_hold g (λ domain one other. (client : ℕ) (r s : Row) →
+    row_of client (board_of domain one) ≡ Some r → row_of client (board_of domain other) ≡ Some s →
+    r.number ≡ s.number → (r.place ≡ s.place) × (r.reply ≡ s.reply))
+
 -- It holds of what any node may have published at any time.
 abbrev pub OfPublishedByTokens : {T S : Type 0} → (T → ℕ → SavedValue → Type 0) → Ghosts S →
     (List ℕ → List Entry → Type 0) → Type 0
@@ -131,3 +165,13 @@ PublishedByTokensRises may_hold g = OfPublishedByTokens may_hold g (λ domain li
 abbrev pub BoardsByTokensConsistent : {T S : Type 0} → (T → ℕ → SavedValue → Type 0) → Ghosts S → Type 0
 BoardsByTokensConsistent may_hold g = OfPublishedByTokens may_hold g (λ domain list. IsLowerDomain domain →
     length list < own_places → IsConsistent (board_of domain list))
+
+-- Such a board keeps each client's latest reply.
+abbrev pub RowsByTokensHeld : {T S : Type 0} → (T → ℕ → SavedValue → Type 0) → Ghosts S → Type 0
+RowsByTokensHeld may_hold g = OfPublishedByTokens may_hold g (λ domain list. (client : ℕ) →
+    row_of client (board_of domain list) ≡ row domain client list)
+
+-- What a session reads of a client on a board that is published is the reply at a place of what is published.
+abbrev pub RowsByTokensAreReplies : {T S : Type 0} → (T → ℕ → SavedValue → Type 0) → Ghosts S → Type 0
+RowsByTokensAreReplies may_hold g = OfPublishedByTokens may_hold g (λ domain list. (client : ℕ) (r : Row) →
+    row_of client (board_of domain list) ≡ Some r → IsReplyAt domain list client r.number r.place r.reply)

@@ -9,16 +9,20 @@ ghost use Rattle.desk_epoch_keepers.specs.Agreement.{PublishedHistoryRepliesAgre
 ghost use Rattle.desk_epoch_keepers.specs.Agreement.{ReadHistoryRepliesAgree};
 ghost use Rattle.desk_epoch_keepers.specs.Agreement.{OneHistory, HistoryRowsAreReplies};
 ghost use Rattle.desk_epoch_keepers.specs.Members.{BoardsByTokensAgree, BoardsByTokensConsistent};
-ghost use Rattle.desk_epoch_keepers.specs.Members.{IdentifiersByTokensStay, PublishedByTokensAgree};
-ghost use Rattle.desk_epoch_keepers.specs.Members.{PublishedByTokensRises, RepliesByTokensAgree};
+ghost use Rattle.desk_epoch_keepers.specs.Members.{HistoryByTokensStays, IdentifiersByTokensStay};
+ghost use Rattle.desk_epoch_keepers.specs.Members.{OneHistoryByTokens, PublishedByTokensAgree};
+ghost use Rattle.desk_epoch_keepers.specs.Members.{PublishedByTokensRises, ReadByTokensAgree, RepliesByTokensAgree};
+ghost use Rattle.desk_epoch_keepers.specs.Members.{RepliesByTokensStay, RowsByTokensAreReplies, RowsByTokensHeld};
 ghost use Rattle.desk_epoch_keepers.specs.Members.{TokenKeepersMakeNodes};
 ghost use Rattle.desk_epoch_keepers.specs.Starts.{OpenedIsStart};
+ghost use Rattle.desk_epoch_keepers.specs.TokenTurns.{PublishedByTokensIsCommitted, TurnsByTokensAreActs};
+ghost use Rattle.desk_epoch_keepers.specs.TokenTurns.{TurnsByTokensShowAll};
 ghost use Rattle.desk_epoch_keepers.specs.Turns.{TurnsAreActs, TurnsPublishHistory, TurnsShowAll};
 
 use desk_epoch_stores::EpochStores;
 use desk_threads::Out;
 
-/// That what `group` speaks of is what keepers promise. It does nothing: its clauses are the facts.
+/// That what `group` and `members` speak of is what keepers promise. It does nothing: its clauses are the facts.
 pub fn turns<T: EpochStores, O: Out>()
     // What `Keeper::run_turns` promises of a turn, and of what it does between two, is an act of a group.
     ensures acts { TurnsAreActs T.may_hold T.Store.StateStore O.Out }
@@ -26,6 +30,11 @@ pub fn turns<T: EpochStores, O: Out>()
     ensures published { TurnsPublishHistory T.may_hold T.Store.StateStore O.Out }
     // Where a keeper says after a turn that all is published, that is all that its node has committed.
     ensures whole { TurnsShowAll T.may_hold T.Store.StateStore O.Out }
+    // So it is where numbers have nodes with other tokens: turns are acts of a group of `members`,
+    ensures acts_by_tokens { TurnsByTokensAreActs T.may_hold T.Store.StateStore O.Out }
+    // and what each keeper publishes is the first of what its node has committed, and all of that where it says so.
+    ensures published_by_tokens { PublishedByTokensIsCommitted T.may_hold T.Store.StateStore O.Out }
+    ensures whole_by_tokens { TurnsByTokensShowAll T.may_hold T.Store.StateStore O.Out }
     // What `open_epochs` promises is such a start.
     ensures starts { OpenedIsStart T.may_hold T.Store.StateStore }
 {}
@@ -68,8 +77,12 @@ pub fn group<T: EpochStores>()
 pub fn members<T: EpochStores>()
     // What the keepers do are acts of a group of nodes of which `desk_epoch_members::group` speaks; later too.
     ensures nodes { TokenKeepersMakeNodes T.may_hold T.Store.StateStore }
+    // What a node has committed stays committed there.
+    ensures stays { HistoryByTokensStays T.may_hold T.Store.StateStore }
     // What two nodes have published, then and later, in whatever epochs, is one a prefix of the other.
     ensures agree { PublishedByTokensAgree T.may_hold T.Store.StateStore }
+    // There is one log of which all that is published is a prefix.
+    ensures one_log { OneHistoryByTokens T.may_hold T.Store.StateStore }
     // As far as both have published, they have one board.
     ensures boards { BoardsByTokensAgree T.may_hold T.Store.StateStore }
     // Each such board is consistent: identifiers differ, and no unit is committed to two incidents.
@@ -78,6 +91,13 @@ pub fn members<T: EpochStores>()
     ensures names { IdentifiersByTokensStay T.may_hold T.Store.StateStore }
     // No numbered command is published twice, in whatever epochs.
     ensures rising { PublishedByTokensRises T.may_hold T.Store.StateStore }
+    // A board keeps each client's latest reply.
+    ensures rows { RowsByTokensHeld T.may_hold T.Store.StateStore }
     // A number of a client has one place and one reply.
     ensures replies { RepliesByTokensAgree T.may_hold T.Store.StateStore }
+    // A reply stands in all that is published up to its place or past it, at any node, then and later.
+    ensures replies_stay { RepliesByTokensStay T.may_hold T.Store.StateStore }
+    // What a session reads of a client is such a reply; sessions that read one number of it read one reply.
+    ensures read { RowsByTokensAreReplies T.may_hold T.Store.StateStore }
+    ensures read_replies { ReadByTokensAgree T.may_hold T.Store.StateStore }
 {}

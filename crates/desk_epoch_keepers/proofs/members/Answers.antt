@@ -1,3 +1,4 @@
+use Rattle.desk_epoch_keepers.proofs.OneTokenHistory as one
 use Rattle.desk_epoch_keepers.proofs.TokenKeepers as keepers
 use Rattle.desk_epoch_keepers.proofs.members.Goals as goal
 
@@ -21,3 +22,21 @@ returns-clause-rising g c = keepers.rises_by_tokens _ _
 
 pub returns-clause-replies : goal.returns-clause-replies
 returns-clause-replies g c = keepers.replies_by_tokens _ _
+
+pub returns-clause-stays : goal.returns-clause-stays
+returns-clause-stays g c = keepers.stays_by_tokens _ _
+
+pub returns-clause-one_log : goal.returns-clause-one_log
+returns-clause-one_log g c = one.one_log_by_tokens _ _
+
+pub returns-clause-rows : goal.returns-clause-rows
+returns-clause-rows g c = keepers.rows_by_tokens _ _
+
+pub returns-clause-replies_stay : goal.returns-clause-replies_stay
+returns-clause-replies_stay g c = keepers.replies_by_tokens_stay _ _
+
+pub returns-clause-read : goal.returns-clause-read
+returns-clause-read g c = keepers.rows_by_tokens_are_replies _ _
+
+pub returns-clause-read_replies : goal.returns-clause-read_replies
+returns-clause-read_replies g c = keepers.read_by_tokens _ _
