@@ -147,10 +147,10 @@ module _ {O T S : Type 0} (may_hold : T → ℕ → SavedValue → Type 0) (g : 
           (logs_are ∙ sym b.logs_are)
 
   -- The act leads to a group with the keepers of these nodes.
-  record OneAct (k : PublishingKeepers T S) (act : KeeperAct) (new : RunningNodes O T S) : Type 0 where
-    group : PublishingKeepers T S
-    leads : PublishingLeads may_hold g out n most k act group
-    are : AreEpochGroup new group
+  pub record OneAct (k : PublishingKeepers T S) (act : KeeperAct) (new : RunningNodes O T S) : Type 0 where
+    pub group : PublishingKeepers T S
+    pub leads : PublishingLeads may_hold g out n most k act group
+    pub are : AreEpochGroup new group
 
   -- So do acts.
   record AllActs (k : PublishingKeepers T S) (acts : List KeeperAct) (new : RunningNodes O T S) : Type 0 where
@@ -332,7 +332,7 @@ module _ {O T S : Type 0} (may_hold : T → ℕ → SavedValue → Type 0) (g : 
         b,
       ))
 
-  leads_act : (old new : RunningNodes O T S) (act : KeeperAct) (k : PublishingKeepers T S) → AreEpochGroup old k →
+  pub leads_act : (old new : RunningNodes O T S) (act : KeeperAct) (k : PublishingKeepers T S) → AreEpochGroup old k →
       NodeActLeads may_hold g out ends n most old act new → OneAct k act new
   leads_act old new (Takes i turn) k are t = takes i turn old new k are t
   leads_act old new (Advances i) k are a = advances i old new k are a
@@ -362,7 +362,7 @@ module _ {O T S : Type 0} (may_hold : T → ℕ → SavedValue → Type 0) (g : 
       record { group = b.group; run = (a.group, a.leads, b.run); are = b.are }
 
 -- The keepers that were handed what was queued are such a group.
-queued_are : {O T S : Type 0} (nodes : RunningNodes O T S) → AreEpochGroup nodes (queued_keepers nodes)
+pub queued_are : {O T S : Type 0} (nodes : RunningNodes O T S) → AreEpochGroup nodes (queued_keepers nodes)
 queued_are nodes = record {
   stands = λ i. record { replica_is = refl; published_is = refl };
   logs = λ i. refl;

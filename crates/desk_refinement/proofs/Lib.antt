@@ -7,3 +7,4 @@ pub mod EpochStarts
 pub mod EpochStops
 pub mod FoundFiles
 pub mod EpochNodeStarts
+pub mod EpochMemberGroups

@@ -3,4 +3,5 @@ pub mod Groups
 pub mod Stops
 pub mod EpochNodes
 pub mod EpochGroups
+pub mod EpochMembers
 pub mod EpochStops

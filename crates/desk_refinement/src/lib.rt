@@ -1,10 +1,13 @@
 //! That the nodes which run are a group of `desk_group`: what their queues carry from one keeper to another, and what
-//! their files keep, are the turns and stops of its law. So are nodes over epochs a group of `desk_epoch_keepers`.
+//! their files keep, are the turns and stops of its law. So are nodes over epochs a group of `desk_epoch_keepers`, also
+//! where some act in the place of others.
 #![tactic(auto)]
 
 ghost use Rattle.desk_network.specs.Putting.{queue_ends};
 ghost use Rattle.desk_refinement.specs.EpochGroups.{EpochNodesAgree, EpochNodesAreGroups, EpochNodesPublish};
 ghost use Rattle.desk_refinement.specs.EpochGroups.{QueuedMayBeTakenByNode, RunAndAgree, RunAsEpochGroups};
+ghost use Rattle.desk_refinement.specs.EpochMembers.{EpochMembersAgree, EpochMembersAreGroups, EpochMembersPublish};
+ghost use Rattle.desk_refinement.specs.EpochMembers.{RunAsTokenGroups, RunByTokensAndAgree};
 ghost use Rattle.desk_refinement.specs.EpochStops.{EndedAreHeld, FilesFindOneOf, FilesFindHeld, NodesCameToBe};
 ghost use Rattle.desk_refinement.specs.EpochStops.{ReportedAreHeld, SavedRestarts, StartsRestartNodes};
 ghost use Rattle.desk_refinement.specs.EpochStops.{StopsAfterBeginning, StopsAfterSave, StopsBetweenEpochs};
@@ -67,6 +70,31 @@ pub fn served_epoch_nodes<W: Wait + Drop, T: EpochStores>()
 {
     queues::<W>();
     epoch_nodes::<QueuedPackets<W>, T>();
+}
+
+/// That nodes over epochs, where numbers have more nodes than one, each with a token and a keeper of its own, are a
+/// group of which `desk_epoch_keepers::members` speaks. A node does what one of `epoch_nodes` does, among those that
+/// have its token, and takes what any node put into a queue to its number. It does nothing: its clauses are the facts.
+pub fn epoch_members<O: Out, T: EpochStores>()
+    // Whatever happens among nodes of any numbers and tokens, wherever they stop and are started again, their keepers
+    // are those of a group; and later so too.
+    ensures groups { EpochMembersAreGroups T.may_hold T.Store.StateStore O.Out }
+    // What they have published is what the law says of.
+    ensures publish { EpochMembersPublish T.may_hold T.Store.StateStore O.Out }
+    // So what two nodes have published, then and later, of any numbers and tokens, is one a prefix of the other.
+    ensures agree { EpochMembersAgree T.may_hold T.Store.StateStore O.Out }
+{}
+
+/// That the nodes of any tokens which `desk_network` serves are such nodes: their keepers' packets are put into the
+/// queues of `QueuedPackets`. It does nothing: its clauses are the facts.
+pub fn served_epoch_members<W: Wait + Drop, T: EpochStores>()
+    // What happens among them happens in a group that has their keepers.
+    ensures groups { RunAsTokenGroups T.may_hold T.Store.StateStore ⟦<QueuedPackets<W> as Out>⟧ queue_ends }
+    // What two of them have published, then and later, is one a prefix of the other.
+    ensures agree { RunByTokensAndAgree T.may_hold T.Store.StateStore ⟦<QueuedPackets<W> as Out>⟧ queue_ends }
+{
+    queues::<W>();
+    epoch_members::<QueuedPackets<W>, T>();
 }
 
 /// That a node whose process ends in a save, or whose save fails, starts again as in the law. It does nothing: its
