@@ -42,15 +42,15 @@ use Rattle.desk_epoch_keepers.proofs.Rows.{read_reply, read_same}
 use Rattle.desk_epoch_keepers.proofs.TurnMoves.{HeldCome}
 
 -- The keepers of the nodes with each token are these nodes.
-abbrev AllStand : {T S : Type 0} → ℕ → TokenKeepers T S → TokenNodes → Type 0
+abbrev pub AllStand : {T S : Type 0} → ℕ → TokenKeepers T S → TokenNodes → Type 0
 AllStand most k g = (t : ℕ) → KeepersStand AnyCame most (keepers_with k t) (nodes_with g t)
 
 -- Keepers go on to others, which are the nodes of a later group.
-record AllGoOn {T S : Type 0} (n most : ℕ) (g : TokenNodes) (new : TokenKeepers T S) : Type 0 where
-  acts : List (ℕ × EpochAct)
-  later : TokenNodes
-  lead : TokenActsLead n g acts later
-  stands : AllStand most new later
+pub record AllGoOn {T S : Type 0} (n most : ℕ) (g : TokenNodes) (new : TokenKeepers T S) : Type 0 where
+  pub acts : List (ℕ × EpochAct)
+  pub later : TokenNodes
+  pub lead : TokenActsLead n g acts later
+  pub stands : AllStand most new later
 
 act_on : {T S : Type 0} (may_hold : T → ℕ → SavedValue → Type 0) (h : Ghosts S) (n most token : ℕ)
     (old new : TokenKeepers T S) (g : TokenNodes) (act : KeeperAct) → AllStand most old g →
@@ -115,7 +115,7 @@ lead_on : (n : ℕ) (first more : List (ℕ × EpochAct)) (a b c : TokenNodes) �
 lead_on n [] more a b c l m = subst (λ (g : TokenNodes). TokenActsLead n g more c) (sym l) m
 lead_on n (act ∷ acts) more a b c (mid, one, rest) m = (mid, one, lead_on n acts more mid b c rest m)
 
-run_on : {T S : Type 0} (may_hold : T → ℕ → SavedValue → Type 0) (h : Ghosts S) (n most : ℕ)
+pub run_on : {T S : Type 0} (may_hold : T → ℕ → SavedValue → Type 0) (h : Ghosts S) (n most : ℕ)
     (old new : TokenKeepers T S) (g : TokenNodes) (acts : List (ℕ × KeeperAct)) → AllStand most old g →
     TokenKeepersRun may_hold h n old acts new → AllGoOn n most g new
 run_on {T} {S} may_hold h n most old new g [] stands same = record {
@@ -135,7 +135,7 @@ run_on {T} {S} may_hold h n most old new g (act ∷ more) stands (mid, one, rest
       stands = all.stands;
     }
 
-first_all : {T S : Type 0} (domain : List ℕ) (n most : ℕ) (k : TokenKeepers T S) →
+pub first_all : {T S : Type 0} (domain : List ℕ) (n most : ℕ) (k : TokenKeepers T S) →
     AreFirstTokenKeepers domain n most k → AllStand most k (first_token_nodes domain n most)
 first_all {T} {S} domain n most k first t = record {
   value_is = λ i. sym (ap (λ (m : MemberValue). m.node) (first.replicas i t).member);

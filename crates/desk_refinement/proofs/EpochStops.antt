@@ -29,23 +29,27 @@ use Rattle.desk_epoch_replica.specs.ReplicaValue.{ReplicaValue}
 use Rattle.desk_epoch_replica.specs.Saves.{StoreFollows, first_to_save}
 use Rattle.desk_epoch_replica.specs.MemberValue.{MemberValue}
 use Rattle.desk_epoch_group.specs.Group.{EpochNodes, first_epoch_nodes, started_again}
+use Rattle.desk_epoch_members.specs.Nodes.{TokenNodes, first_token_nodes, nodes_with}
 use Rattle.desk_epoch_opening.specs.Opened.{IsOpened}
 use Rattle.desk_epoch_keepers.specs.Group.{Breaks, BreaksAdvanced, BreaksBetween, EpochKeeperBecomes}
 use Rattle.desk_epoch_keepers.specs.Group.{EpochKeepers, IsStarted, KeeperAct, KeeperActLeads, OneEpochTurn}
 use Rattle.desk_epoch_keepers.specs.Group.{Restarts, StartsAfter, from_saved, in_next_epoch, logs_after_begin}
 use Rattle.desk_epoch_keepers.specs.Group.{logs_after_turn, replica_node}
+use Rattle.desk_epoch_keepers.specs.Members.{keepers_with}
 use Rattle.desk_epoch_keepers.specs.Turns.{PublishingKeepers, Publishes}
 use Rattle.desk_epoch_keepers.proofs.GroupNodes.{AnyCame, KeepersStand, advanced, any_acts, any_held, any_turn}
 use Rattle.desk_epoch_keepers.proofs.GroupNodes.{begin_logs, first_stands, run_goes_on, stand_of, turn_made}
 use Rattle.desk_epoch_keepers.proofs.Moves.{HasLogs, Moved}
+use Rattle.desk_epoch_keepers.proofs.TokenKeepers.{AllGoOn, first_all, run_on}
 use Rattle.desk_epoch_keepers.proofs.TurnMoves.{HeldCome}
-use Rattle.desk_refinement.specs.EpochStops.{CameToBe, EndedAreHeld, FindsLogs, IsStartBy, OpensAgain}
+use Rattle.desk_refinement.specs.EpochStops.{CameInGroup, CameToBe, CameToBeByTokens, EndedAreHeld, FindsLogs}
+use Rattle.desk_refinement.specs.EpochStops.{IsStartBy, OpensAgain}
 use Rattle.desk_refinement.specs.EpochStops.{ReportedAreHeld, SavedRestarts, StopsAfterBeginning, StopsAfterSave}
 use Rattle.desk_refinement.specs.EpochStops.{StopsBetweenEpochs, StopsInBeginning, StopsInFirstSave, StopsInReport}
 use Rattle.desk_refinement.specs.EpochStops.{StopsInSave}
 use Rattle.desk_refinement.proofs.EpochStarts.{StartsFound, first_unfinished, same_value, starts_found, with_saved}
 use Rattle.desk_refinement.proofs.OverLogs.{AllOver, AreOver, HasOver, SameMember, acts_over, first_over, is_over}
-use Rattle.desk_refinement.proofs.OverLogs.{last_over}
+use Rattle.desk_refinement.proofs.OverLogs.{first_over_by_tokens, last_over, token_acts_over}
 
 -- A log that is over, saved as the one that was reported.
 
@@ -164,8 +168,8 @@ module _ {T S : Type 0} (may_hold : T → ℕ → SavedValue → Type 0) (g : Gh
     stands : KeepersStand AnyCame most k nodes
     over : AllOver most nodes
 
-  stands_over : (n most : ℕ) (k : EpochKeepers T S) → CameToBe may_hold g n most k → StandsOver most k
-  stands_over n most k c =
+  stands_first : (n most : ℕ) (k : EpochKeepers T S) → CameToBe may_hold g n most k → StandsOver most k
+  stands_first n most k c =
       let none : EpochNodes = first_epoch_nodes c.domain n most in
       let on =
       run_goes_on may_hold g AnyCame n most c.first c.group none c.acts comes (any_acts c.acts)
@@ -175,6 +179,23 @@ module _ {T S : Type 0} (may_hold : T → ℕ → SavedValue → Type 0) (g : Gh
         stands = same_stands most c.group k on.later c.replicas c.logs c.handed on.stands;
         over = (acts_over n most none on.later on.acts (first_over c.domain n most) on.lead).0;
       }
+
+  stands_by_tokens : (n most token : ℕ) (k : EpochKeepers T S) → CameToBeByTokens may_hold g n most token k →
+      StandsOver most k
+  stands_by_tokens n most token k c =
+      let none : TokenNodes = first_token_nodes c.domain n most in
+      let on : AllGoOn n most none c.group =
+      run_on may_hold g n most c.first c.group none c.acts (first_all c.domain n most c.first c.are_first) c.run in
+      record {
+        nodes = nodes_with on.later token;
+        stands = same_stands most (keepers_with c.group token) k (nodes_with on.later token) c.replicas c.logs c.handed
+            (on.stands token);
+        over = token_acts_over n most none on.later on.acts (first_over_by_tokens c.domain n most) on.lead token;
+      }
+
+  stands_over : (n most : ℕ) (k : EpochKeepers T S) → CameInGroup may_hold g n most k → StandsOver most k
+  stands_over n most k (inl c) = stands_first n most k c
+  stands_over n most k (inr (token, c)) = stands_by_tokens n most token k c
 
   -- A log that was reported is saved, all committed, in the store of the epoch that is over.
   pub reported_are_held : ReportedAreHeld may_hold g

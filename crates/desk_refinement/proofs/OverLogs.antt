@@ -1,5 +1,5 @@
 -- The logs of past epochs are over, and a node stays the same member, whatever happens to nodes over epochs.
-use Rattle.std.proofs.Common.{◌≡◌, ◌≢◌, ◌+◌, ℕ, zero, suc, Bool, true, false, ◌&&◌, ◌||◌, if◌then◌else◌, leb}
+use Rattle.std.proofs.Common.{◌≡◌, ◌≢◌, ◌⊎◌, ◌+◌, ℕ, zero, suc, Bool, true, false, ◌&&◌, ◌||◌, if◌then◌else◌, leb}
 use Rattle.std.proofs.Common.{eqb, List, [], ◌∷◌, ◌++◌, length, take, Some, None, slice_get, refl, sym, ap, ◌∙◌, inl}
 use Rattle.std.proofs.Common.{inr, ⊎_elim, subst, arith, length-append}
 use Rattle.std.proofs.lemmas.Bool.{and_parts, cases_eq, eq-eqb}
@@ -26,6 +26,7 @@ use Rattle.desk_epoch_group.specs.Group.{EpochNodes, EpochAct, ActLeads, ActsLea
 use Rattle.desk_epoch_group.specs.Group.{MeetsAndEnds, NodeBecomes, StartsAgain, first_epoch_nodes}
 use Rattle.desk_epoch_group.specs.Group.{logs_after, started_again}
 use Rattle.desk_epoch_group.proofs.StepCases.{StepCase, step_case}
+use Rattle.desk_epoch_members.specs.Nodes.{TokenActLeads, TokenActsLead, TokenNodes, first_token_nodes, nodes_with}
 use Rattle.desk_epoch_keepers.proofs.Deeds.{has_one_more}
 use Rattle.desk_epoch_keepers.proofs.GroupNodes.{first_stand}
 use Rattle.desk_epoch_keepers.proofs.Moves.{HasLogs}
@@ -323,6 +324,34 @@ acts_over n most old new (act ∷ more) all (mid, one, rest) =
 
 pub first_over : (domain : List ℕ) (n most : ℕ) → AllOver most (first_epoch_nodes domain n most)
 first_over domain n most i = record {
+  has = record { id_is = refl; most_is = refl; stand = first_stand; epoch_is = refl };
+  over = tt;
+}
+
+-- So it is of the nodes with each token.
+abbrev pub AllOverByTokens : ℕ → TokenNodes → Type 0
+AllOverByTokens most g = (t : ℕ) → AllOver most (nodes_with g t)
+
+token_act_over : (n most token : ℕ) (old new : TokenNodes) (act : EpochAct) → AllOverByTokens most old →
+    TokenActLeads n token old act new → AllOverByTokens most new
+token_act_over n most token old new act all x t = by_token (cases_eq t token)
+  where
+    by_token : (t ≡ token) ⊎ (t ≢ token) → AllOver most (nodes_with new t)
+    by_token (inl e) =
+        subst (λ u. AllOver most (nodes_with new u)) (sym e)
+        (act_over n most (nodes_with old token) (nodes_with new token) act (all token) x.leads).0
+    by_token (inr ne) = λ i.
+        subst (λ (v : EpochValue). HasOver most i v (new.logs i t)) (sym (x.other_values i t ne))
+        (subst (λ (ls : List (List Entry)). HasOver most i (old.values i t) ls) (sym (x.other_logs i t ne)) (all t i))
+
+pub token_acts_over : (n most : ℕ) (old new : TokenNodes) (acts : List (ℕ × EpochAct)) → AllOverByTokens most old →
+    TokenActsLead n old acts new → AllOverByTokens most new
+token_acts_over n most old new [] all same = subst (λ (g : TokenNodes). AllOverByTokens most g) same all
+token_acts_over n most old new (act ∷ more) all (mid, one, rest) =
+    token_acts_over n most mid new more (token_act_over n most act.0 old mid act.1 all one) rest
+
+pub first_over_by_tokens : (domain : List ℕ) (n most : ℕ) → AllOverByTokens most (first_token_nodes domain n most)
+first_over_by_tokens domain n most t i = record {
   has = record { id_is = refl; most_is = refl; stand = first_stand; epoch_is = refl };
   over = tt;
 }

@@ -1,5 +1,5 @@
 -- What a start finds in the stores of a node over epochs whose process ended, and which act of its group it is then.
-use Rattle.std.specs.Prelude.{◌≡◌, ◌⊎◌, ◌<◌, ◌≤◌, ℕ, ◌+◌, true, false, List, [], length, take, slice_get}
+use Rattle.std.specs.Prelude.{◌≡◌, ◌≢◌, ◌⊎◌, ◌<◌, ◌≤◌, ℕ, ◌+◌, true, false, List, [], length, take, slice_get}
 use Rattle.std.specs.Prelude.{Contains, None, Ok, Some}
 use Rattle.sqlite_trees.specs.declared.store.Store.{Ghosts as FileGhosts}
 use Rattle.sqlite.specs.Effect.{Database}
@@ -26,7 +26,11 @@ use Rattle.desk_network.specs.Putting.{QueueEnds, PutsIntoQueues}
 use Rattle.desk_epoch_keepers.specs.Group.{AreFirstKeepers, EpochKeeperBecomes, EpochKeepers, KeeperAct, KeepersRun}
 use Rattle.desk_epoch_keepers.specs.Group.{Breaks, BreaksAdvanced, BreaksBetween, OneEpochTurn, Restarts}
 use Rattle.desk_epoch_keepers.specs.Group.{logs_after_begin, logs_after_turn, replica_node}
+use Rattle.desk_epoch_keepers.specs.Members.{AreFirstTokenKeepers, TokenKeepers, TokenKeepersRun}
+use Rattle.desk_epoch_keepers.specs.TokenTurns.{AreFirstPublishingByTokens}
 use Rattle.desk_epoch_keepers.specs.Turns.{AreFirstPublishing, PublishingKeepers, Publishes, StartLeads}
+use Rattle.desk_refinement.specs.EpochMembers.{TokenNodeActLeads, TokenNodesRun, TokenRunningNodes}
+use Rattle.desk_refinement.specs.EpochMembers.{queued_token_keepers, running_with}
 use Rattle.desk_refinement.specs.EpochNodes.{NodeRestarts, NodesRun, OneNodeChanges, RunningNodes, queued_keepers}
 use Rattle.desk_refinement.specs.Stops.{FindsAfterSave}
 
@@ -64,6 +68,26 @@ pub record CameToBe {T S : Type 0} (may_hold : T → ℕ → SavedValue → Type
   pub logs : (i : ℕ) → k.logs i ≡ group.logs i
   pub handed : (sent : ℕ × EpochPacket) → Contains k.handed sent → Contains group.handed sent
 
+-- Keepers came to be those with a token, by what happened in a group of nodes with any tokens since they were started
+-- the first time: these are its replicas and past logs, and what was handed out here was handed out there.
+pub record CameToBeByTokens {T S : Type 0} (may_hold : T → ℕ → SavedValue → Type 0) (g : Ghosts S)
+    (n most token : ℕ) (k : EpochKeepers T S) : Type 0 where
+  pub domain : List ℕ
+  pub acts : List (ℕ × KeeperAct)
+  pub first : TokenKeepers T S
+  pub group : TokenKeepers T S
+  pub are_first : AreFirstTokenKeepers domain n most first
+  pub run : TokenKeepersRun may_hold g n first acts group
+  pub replicas : (i : ℕ) → k.replicas i ≡ group.replicas i token
+  pub logs : (i : ℕ) → k.logs i ≡ group.logs i token
+  pub handed : (x : ℕ × EpochPacket) → Contains k.handed x → Contains group.handed x
+
+-- Keepers came to be these in a group, in which all have token 0, or as those with a token where nodes have any.
+abbrev pub CameInGroup : {T S : Type 0} → (T → ℕ → SavedValue → Type 0) → Ghosts S → ℕ → ℕ → EpochKeepers T S →
+    Type 0
+CameInGroup may_hold g n most k =
+    CameToBe may_hold g n most k ⊎ ((token : ℕ) × CameToBeByTokens may_hold g n most token k)
+
 -- The process of node i ended, and its keeper is opened again over stores that may hold such states, for the same owner
 -- and with the same token, as `open_epochs` promises it.
 pub record OpensAgain {T S : Type 0} (may_hold : T → ℕ → SavedValue → Type 0) (g : Ghosts S) (n i : ℕ)
@@ -72,7 +96,7 @@ pub record OpensAgain {T S : Type 0} (may_hold : T → ℕ → SavedValue → Ty
   pub is_node : i < n
   pub most : ℕ
   pub least : 1 ≤ most
-  pub came : CameToBe may_hold g n most old.keepers
+  pub came : CameInGroup may_hold g n most old.keepers
   pub opened : IsOpened g holds (owner_of_node (replica_node (old.keepers.replicas i)).node)
       (replica_node (old.keepers.replicas i)).token most new.replica shown
   pub reported : new.replica.reported ≡ None
@@ -197,11 +221,40 @@ StartsRestartNodes {O} {T} {S} may_hold g out = (ends : O → QueueEnds) (n i : 
     (new.stands i).published) → new.logs i ≡ start.logs → out.takes (old.stands i).out packets ended →
     OneNodeChanges ends n i old ended new → NodeRestarts may_hold g out ends n i old act new
 
+-- So did those with each token where nodes have any.
+abbrev pub MembersCameToBe : {O T S : Type 0} → (T → ℕ → SavedValue → Type 0) → Ghosts S → OutGhosts O → Type 0
+MembersCameToBe {O} {T} {S} may_hold g out = (ends : O → QueueEnds) → PutsIntoQueues out ends → (domain : List ℕ)
+    (n most items token : ℕ) (acts : List (ℕ × KeeperAct)) (first nodes : TokenRunningNodes O T S) →
+    AreFirstPublishingByTokens domain n most (queued_token_keepers first) →
+    TokenNodesRun may_hold g out ends n items first acts nodes →
+    CameToBeByTokens may_hold g n most token (queued_keepers (running_with nodes token)).keepers
+
+-- The act ends the process of node i.
+abbrev pub EndsNode : ℕ → KeeperAct → Type 0
+EndsNode i (Breaks j turn count) = j ≡ i
+EndsNode i (BreaksBetween j turn) = j ≡ i
+EndsNode i (BreaksAdvanced j count) = j ≡ i
+EndsNode i (Restarts j) = j ≡ i
+EndsNode i _ = ⊥
+
+-- And where the start of a node with a token is such an act of their group, and nodes with other tokens have not
+-- changed, that happens among nodes of any tokens.
+abbrev pub StartsRestartMembers : {O T S : Type 0} → (T → ℕ → SavedValue → Type 0) → Ghosts S → OutGhosts O → Type 0
+StartsRestartMembers {O} {T} {S} may_hold g out = (ends : O → QueueEnds) (n items token i : ℕ)
+    (old new : TokenRunningNodes O T S) (act : KeeperAct) (packets : List (ℕ × EpochPacket)) (ended : O) →
+    EndsNode i act → (start : IsStartBy may_hold g n i (queued_keepers (running_with old token)) act packets
+    (new.stands i token).replica (new.stands i token).published) → new.logs i token ≡ start.logs →
+    out.takes (old.stands i token).out packets ended →
+    OneNodeChanges ends n i (running_with old token) ended (running_with new token) →
+    ((j t : ℕ) → t ≢ token → new.stands j t ≡ old.stands j t) →
+    ((j t : ℕ) → t ≢ token → new.logs j t ≡ old.logs j t) →
+    TokenNodeActLeads may_hold g out ends n items token old act new
+
 -- Where a log was reported in a turn that was saved, the store of the epoch that is over holds a state that has the log
 -- which is put last.
 abbrev pub ReportedAreHeld : {T S : Type 0} → (T → ℕ → SavedValue → Type 0) → Ghosts S → Type 0
 ReportedAreHeld {T} {S} may_hold g = (n i most : ℕ) (old : EpochKeepers T S) (turn : List Item)
-    (packets : List (ℕ × EpochPacket)) (made new : DeferringReplica T S) → i < n → CameToBe may_hold g n most old →
+    (packets : List (ℕ × EpochPacket)) (made new : DeferringReplica T S) → i < n → CameInGroup may_hold g n most old →
     OneEpochTurn may_hold i old turn packets made → made.replica.unsaved ≡ true →
     SavesAndForgets (deferring_saving may_hold g) made new →
     (before : S) × g.keeps made.replica.current before
@@ -211,7 +264,7 @@ ReportedAreHeld {T} {S} may_hold g = (n i most : ℕ) (old : EpochKeepers T S) (
 -- Where the keeper of a node that was saved began the next epoch, so does the store of the one that is over.
 abbrev pub EndedAreHeld : {T S : Type 0} → (T → ℕ → SavedValue → Type 0) → Ghosts S → Type 0
 EndedAreHeld {T} {S} may_hold g = (n i most : ℕ) (old : EpochKeepers T S) (begun : DeferringReplica T S) →
-    CameToBe may_hold g n most old → IsSavedReplica g (old.replicas i).replica →
+    CameInGroup may_hold g n most old → IsSavedReplica g (old.replicas i).replica →
     (replica_node begun).epoch ≡ (replica_node (old.replicas i)).epoch + 1 →
     slice_get (logs_after_begin (old.logs i) (old.replicas i) begun) (replica_node (old.replicas i)).epoch
     ≡ Some (saved_cut most (g.last (old.replicas i).replica.current))

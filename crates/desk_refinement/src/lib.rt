@@ -8,8 +8,9 @@ ghost use Rattle.desk_refinement.specs.EpochGroups.{EpochNodesAgree, EpochNodesA
 ghost use Rattle.desk_refinement.specs.EpochGroups.{QueuedMayBeTakenByNode, RunAndAgree, RunAsEpochGroups};
 ghost use Rattle.desk_refinement.specs.EpochMembers.{EpochMembersAgree, EpochMembersAreGroups, EpochMembersPublish};
 ghost use Rattle.desk_refinement.specs.EpochMembers.{RunAsTokenGroups, RunByTokensAndAgree};
-ghost use Rattle.desk_refinement.specs.EpochStops.{EndedAreHeld, FilesFindOneOf, FilesFindHeld, NodesCameToBe};
-ghost use Rattle.desk_refinement.specs.EpochStops.{ReportedAreHeld, SavedRestarts, StartsRestartNodes};
+ghost use Rattle.desk_refinement.specs.EpochStops.{EndedAreHeld, FilesFindOneOf, FilesFindHeld, MembersCameToBe};
+ghost use Rattle.desk_refinement.specs.EpochStops.{NodesCameToBe, ReportedAreHeld, SavedRestarts};
+ghost use Rattle.desk_refinement.specs.EpochStops.{StartsRestartMembers, StartsRestartNodes};
 ghost use Rattle.desk_refinement.specs.EpochStops.{StopsAfterBeginning, StopsAfterSave, StopsBetweenEpochs};
 ghost use Rattle.desk_refinement.specs.EpochStops.{StopsInBeginning, StopsInFirstSave, StopsInReport, StopsInSave};
 ghost use Rattle.desk_refinement.specs.Groups.{QueuedMayBeTaken, RunAsGroups, NodesAreGroups, TurnsPublish};
@@ -111,11 +112,13 @@ pub fn stops<S: Alter>()
 {}
 
 /// That a node over epochs whose process ends at any moment starts again as in the law of `desk_epoch_keepers`, by what
-/// is found in the stores of its epochs: `epoch_nodes` has that as a premise. It does nothing: its clauses are the
-/// facts.
+/// is found in the stores of its epochs: `epoch_nodes` has that as a premise, and `epoch_members` of nodes of any
+/// tokens. It does nothing: its clauses are the facts.
 pub fn epoch_stops<O: Out, T: EpochStores, S: Alter>()
     // Nodes that run, wherever they stopped and were started again, are those of which the next clauses speak.
     ensures nodes { NodesCameToBe T.may_hold T.Store.StateStore O.Out }
+    // So are those of each token, where numbers have nodes with other tokens too.
+    ensures members { MembersCameToBe T.may_hold T.Store.StateStore O.Out }
     // Where the state that was saved last is found, that is a restart, in the next epoch where its own is over.
     ensures restarts { SavedRestarts T.may_hold T.Store.StateStore }
     // The state before the save of a turn is a restart, the one after it a stop in the turn.
@@ -134,6 +137,8 @@ pub fn epoch_stops<O: Out, T: EpochStores, S: Alter>()
     ensures after_beginning { StopsAfterBeginning T.may_hold T.Store.StateStore }
     // Each such start is what `epoch_nodes` has as a premise.
     ensures again { StartsRestartNodes T.may_hold T.Store.StateStore O.Out }
+    // Of a node with any token it is what happens to that node among those of `epoch_members`.
+    ensures members_again { StartsRestartMembers T.may_hold T.Store.StateStore O.Out }
     // The store of an epoch that a node leaves has its log, where that was reported,
     ensures reported { ReportedAreHeld T.may_hold T.Store.StateStore }
     // and where the node had committed its end.

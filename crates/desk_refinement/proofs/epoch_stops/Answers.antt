@@ -44,3 +44,9 @@ returns-clause-reported g c = stops.reported_are_held _ _
 
 pub returns-clause-ended : goal.returns-clause-ended
 returns-clause-ended g c = stops.ended_are_held _ _
+
+pub returns-clause-members : goal.returns-clause-members
+returns-clause-members g c = nodes.members_came_to_be _ _ _
+
+pub returns-clause-members_again : goal.returns-clause-members_again
+returns-clause-members_again g c = nodes.starts_restart_members _ _ _
