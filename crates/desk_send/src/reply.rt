@@ -10,7 +10,8 @@ use desk_lines::split_at_first;
 use std::alloc::Global;
 use std::io::BufRead;
 
-/// The most bytes of a reply line with its newline, in bytes: eight for each byte of the commands of a full log.
+/// The most bytes of a reply line with its newline, in bytes: eight for each byte of the commands of a log of
+/// 16,384 entries.
 pub const REPLY_BYTES: usize = 134_217_728;
 
 /// How many bytes stand up to the first newline and with it, and whether there is one.

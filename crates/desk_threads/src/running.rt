@@ -148,15 +148,15 @@ impl<B: BoardName, R: SavedReplica> Keeper<B, R> {
         }
     }
 
-    /// Takes and does items until `Stop`, or until no sender is left; it waits while the mailbox is empty. The items
-    /// that are there when it takes one, `most` in all and no more, are a turn: their steps are done in order, in
-    /// memory; then one save, one publish, and the packets of each step, in order. A tick, a stop and a packet that may
-    /// carry a log end their turn. An item that is refused for want of memory is counted, and ends nothing. After a
-    /// turn that was saved the keeper begins the next epoch, where that is due and all is published, and prepares the
-    /// beginning after that. Err is `StoreFault`, where the save of the last turn failed, or `NodeStopped` where the
-    /// keeper had ended before; then nothing of the last turn went out or was published, and no session heard an answer
-    /// of it. Err is what stopped the replica where a beginning failed, or could not be prepared: `StoreFault`, or
-    /// `NodeStopped` where another node acts in its place; nothing of that went out.
+    /// Takes and does items until `Stop`, or until the mailbox reports that no sender is left; it waits while the
+    /// mailbox is empty. The items that are there when it takes one, `most` in all and no more, are a turn: their steps
+    /// are done in order, in memory; then one save, one publish, and the packets of each step, in order. A tick, a stop
+    /// and a packet that may carry a log end their turn. An item that is refused for want of memory is counted, and
+    /// ends nothing. After a turn that was saved the keeper begins the next epoch, where that is due and all is
+    /// published, and prepares the beginning after that. Err is `StoreFault`, where the save of the last turn failed,
+    /// or `NodeStopped` where the keeper had ended before; then nothing of the last turn went out or was published, and
+    /// no session heard an answer of it. Err is what stopped the replica where a beginning failed, or could not be
+    /// prepared: `StoreFault`, or `NodeStopped` where another node acts in its place; nothing of that went out.
     pub fn run_turns<W: Wait, O: Out>(
         self,
         rt: &W,
@@ -202,12 +202,12 @@ impl<B: BoardName, R: SavedReplica> Keeper<B, R> {
         unreachable!()
     }
 
-    /// Takes and does items until `Stop`, or until no sender is left, each with a save of its own; it waits while the
-    /// mailbox is empty. An item that is refused for want of memory is counted, and ends nothing. After an item whose
-    /// state was saved the keeper advances, as in `run_turns`. Err is `StoreFault`, where the save of the last item
-    /// failed, or `NodeStopped` where the keeper had ended before; then nothing of that item went out or was published.
-    /// Err is what stopped the replica where a beginning failed, or could not be prepared: `StoreFault`, or
-    /// `NodeStopped` where another node acts in its place; nothing of that went out.
+    /// Takes and does items until `Stop`, or until the mailbox reports that no sender is left, each with a save of its
+    /// own; it waits while the mailbox is empty. An item that is refused for want of memory is counted, and ends
+    /// nothing. After an item whose state was saved the keeper advances, as in `run_turns`. Err is `StoreFault`, where
+    /// the save of the last item failed, or `NodeStopped` where the keeper had ended before; then nothing of that item
+    /// went out or was published. Err is what stopped the replica where a beginning failed, or could not be prepared:
+    /// `StoreFault`, or `NodeStopped` where another node acts in its place; nothing of that went out.
     pub fn run<W: Wait, O: Out>(self, rt: &W, out: &mut O) -> (Keeper<B, R>, Result<(), Refusal>)
         ensures same { IsSameTaker self.taker result.0.taker }
         ensures did { OnOk result.1 (Ran O.Out R.Replica R.SavedReplica.saving (taken_by self.taker)
