@@ -26,6 +26,7 @@ bench:
 	scripts/bench/node-memory
 	scripts/bench/epoch-starts
 	scripts/bench/long-run
+	scripts/bench/laggard
 	scripts/bench/page-speed
 	scripts/bench/beside-etcd
 	scripts/bench/beside-rust
