@@ -9,7 +9,7 @@ use Rattle.desk_refinement.specs.EpochStops.{FilesFindOneOf, FilesFindHeld, File
 use Rattle.desk_refinement.proofs.SavedStops.{finds_either, finds_given}
 
 -- A file that holds a state is found with that.
-found_in : {S : Type 0} (g : Ghosts S) (holds : ℕ → SavedValue → Type 0) (epoch : ℕ) (state s : SavedValue) →
+pub found_in : {S : Type 0} (g : Ghosts S) (holds : ℕ → SavedValue → Type 0) (epoch : ℕ) (state s : SavedValue) →
     IsFoundIn g holds epoch state → holds epoch s → s ≡ state
 found_in g holds epoch state s (inl after) held =
     let (file, f, saved) = after s held in

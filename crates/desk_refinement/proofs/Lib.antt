@@ -8,3 +8,4 @@ pub mod EpochStops
 pub mod FoundFiles
 pub mod EpochNodeStarts
 pub mod EpochMemberGroups
+pub mod FirstStarts

@@ -5,3 +5,4 @@ pub mod EpochNodes
 pub mod EpochGroups
 pub mod EpochMembers
 pub mod EpochStops
+pub mod FirstStarts

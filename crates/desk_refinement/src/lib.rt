@@ -13,6 +13,7 @@ ghost use Rattle.desk_refinement.specs.EpochStops.{NodesCameToBe, ReportedAreHel
 ghost use Rattle.desk_refinement.specs.EpochStops.{StartsRestartMembers, StartsRestartNodes};
 ghost use Rattle.desk_refinement.specs.EpochStops.{StopsAfterBeginning, StopsAfterSave, StopsBetweenEpochs};
 ghost use Rattle.desk_refinement.specs.EpochStops.{StopsInBeginning, StopsInFirstSave, StopsInReport, StopsInSave};
+ghost use Rattle.desk_refinement.specs.FirstStarts.{NewFilesFindNothing, OpenedAreFirst, StartsBegin, UnusedAreFound};
 ghost use Rattle.desk_refinement.specs.Groups.{QueuedMayBeTaken, RunAsGroups, NodesAreGroups, TurnsPublish};
 ghost use Rattle.desk_refinement.specs.Stops.{FindsEither, StopsInSaveHappen, FindsGiven, StopsAfterSaveHappen};
 
@@ -147,4 +148,20 @@ pub fn epoch_stops<O: Out, T: EpochStores, S: Alter>()
     ensures held { FilesFindHeld T.may_hold S.Store }
     // and one with a save under way with the state before or the one that was to be saved.
     ensures either { FilesFindOneOf T.may_hold S.Store }
+{}
+
+/// That the first start of a node over epochs, of whatever token, is as the law of `desk_epoch_keepers::members` begins
+/// with it. So each start of a node is one of that law: here the first, in `epoch_stops` each later one. It does
+/// nothing: its clauses are the facts.
+pub fn epoch_starts<O: Out, T: EpochStores, S: Alter>()
+    // What `open_epochs` promises, where the first epoch's store was found unused, is the first keeper of that number
+    // and token.
+    ensures first { OpenedAreFirst T.may_hold T.Store.StateStore }
+    // Nodes that start so, of each number and token one at most, are those with which `epoch_members` begins, and those
+    // with token 0 those of `epoch_nodes`. Each may start at any moment: what happens to others leaves it so.
+    ensures nodes { StartsBegin T.may_hold T.Store.StateStore O.Out }
+    // A store that may hold nothing is found unused,
+    ensures unused { UnusedAreFound T.may_hold T.Store.StateStore }
+    // as a file is that has none of a node's tables, or the first state in them.
+    ensures files { NewFilesFindNothing T.may_hold S.Store }
 {}
