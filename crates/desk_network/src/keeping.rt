@@ -19,6 +19,7 @@ use std::alloc::Global;
 use std::sync::Wait;
 use std::thread;
 use std::thread::{Promise, PromisedHandle, Threads};
+use std::time::Clock;
 
 /// What comes back of a node that has ended.
 #[derive(Drop)]
@@ -47,7 +48,7 @@ impl<W: Wait + Drop> Drop for QueuedPackets<W> {
     }
 }
 
-impl<W: Wait + Drop> Out for QueuedPackets<W> {
+impl<W: Wait + Clock + Drop> Out for QueuedPackets<W> {
     ghost use Rattle.desk_network.specs.Queued.{HasQueued};
     ghost use Rattle.desk_network.specs.QueuedInOrder.{queued_none, queued_then};
 
@@ -80,7 +81,7 @@ impl<T, S: StateStore> Promise<NodeEnd<T, S>> for EndsByKeeper {
 pub(crate) type KeeperThread<T, S> = PromisedHandle<NodeEnd<T, S>, EndsByKeeper>;
 
 /// Runs the keeper to its end.
-fn keep<B: BoardName, T: EpochStores + Drop, R: Wait + Drop>(
+fn keep<B: BoardName, T: EpochStores + Drop, R: Wait + Clock + Drop>(
     rt: &R,
     guard: KeeperGuard<B, DeferringReplica<T>, R>,
     out: QueuedPackets<R>,
@@ -104,7 +105,7 @@ fn keep<B: BoardName, T: EpochStores + Drop, R: Wait + Drop>(
 pub(crate) fn start_keeper<
     B: BoardName + Send + Sync + 'static,
     T: EpochStores + Drop + Send + 'static,
-    R: Threads + Wait + Drop + Copy + Send + Sync + 'static,
+    R: Threads + Wait + Clock + Drop + Copy + Send + Sync + 'static,
 >(
     rt: &R,
     alloc: Global,

@@ -13,6 +13,7 @@ use desk_types::{EpochPacket, WantOfMemory};
 use std::alloc::Global;
 use std::marker::Model;
 use std::sync::Wait;
+use std::time::Clock;
 
 /// The taking end of the queue to another node.
 #[derive(Drop)]
@@ -138,20 +139,19 @@ fn put_in_end<R: Wait>(rt: &R, end: &mut Option<Sender<EpochPacket>>, packet: Ep
 }
 
 /// Whether a packet for a node is to be put, and is no long one, and no ask for such, that came just before.
-fn is_admitted(repeats: &mut Vec<Repeats>, to: u8, packet: &EpochPacket) -> bool {
+fn is_admitted<R: Clock>(rt: &R, repeats: &mut Vec<Repeats>, to: u8, packet: &EpochPacket) -> bool {
     match repeats.get_mut(to as usize) {
-        Some(repeats) => repeats.admit(packet),
+        Some(repeats) => repeats.admit(rt, packet),
         None => true,
     }
 }
 
-impl<R: Wait + Drop> PeerQueues<R> {
+impl<R: Wait + Clock + Drop> PeerQueues<R> {
     /// Puts a packet into the queue to a node, without waiting. It is false where the packet is lost: the queue is
-    /// full, or its taking end is gone, or the node is this one itself, or none of the group. A packet of 256 entries
-    /// or more that comes again for a node (of the same epoch, purpose, kind and view, with entries after the same
-    /// place) is lost, too, but each tenth time: what takes a tick's time to send would fill the queue otherwise. A
-    /// `NewState` by the rules is not. A `GetState` by these that comes again is, but the 1st, 16th, 256th and 1,024th
-    /// time, and each 4,096th.
+    /// full, or its taking end is gone, or the node is this one itself, or none of the group. A `DoViewChange` or a
+    /// `StartView` of 256 entries or more that comes again for a node, of the same epoch, purpose and view, is lost,
+    /// too, but each tenth time: what takes a tick's time to send would fill the queue otherwise. A `GetState` by the
+    /// rules of its epoch that comes again is, but for one in 200 ms.
     pub fn put(&mut self, to: u8, packet: EpochPacket) -> bool
         ensures put { put_to self.new to ≡ (if result then put_to self.old to ++ packet ∷ [] else put_to self.old to) }
         ensures same { IsSameEnd (end_to self.old to) (end_to self.new to) }
@@ -159,7 +159,7 @@ impl<R: Wait + Drop> PeerQueues<R> {
         ensures count { length self.new ≡ length self.old }
     {
         let PeerQueues { rt, ends, repeats } = self;
-        if !is_admitted(repeats, to, &packet) {
+        if !is_admitted(rt, repeats, to, &packet) {
             drop(packet);
             return false;
         }

@@ -1,13 +1,14 @@
 //! Long packets, and asks for such, that come again for a node.
 
 use desk_types::{EpochPacket, Message, Purpose};
+use std::time::{Clock, Instant};
 
 /// A packet with so many entries or more is long.
 pub const LONG_PACKET_ENTRIES: usize = 256;
 /// Of a long packet that comes again and again for a node, one in so many is put.
 pub const REPEATS_A_PUT: u32 = 10;
-/// Of an ask for entries that comes again and again for a node, one in so many is put, and a few before.
-const ASKS_A_PUT: u32 = 4_096;
+/// So long after an ask for entries was put for a node, the same one is put again, in milliseconds.
+const ASK_MILLISECONDS: u128 = 200;
 
 /// The kinds of packets that may be long, or ask for one.
 #[derive(Clone, Copy, PartialEq)]
@@ -15,17 +16,16 @@ enum LongKind {
     DoViewChange,
     StartView,
     GetState,
-    NewState,
 }
 
-/// What a long packet has in common with the same one when it is sent again.
+/// What a long packet, or an ask, has in common with the same one when it is sent again.
 #[derive(Clone, Copy, PartialEq)]
 struct LongPacket {
     epoch: u64,
     purpose: Purpose,
     kind: LongKind,
     view: u64,
-    /// The place after which its entries stand.
+    /// The place after which an ask wants entries.
     base: u64,
 }
 
@@ -43,17 +43,11 @@ fn ask_by_rules(packet: &EpochPacket, view: u64, base: u64) -> Option<LongPacket
     }
 }
 
-/// What a packet is as a long one, if it is long, or asks for one. An answer by the rules is as seldom as its ask.
+/// What a packet is as a long one, if it is long, or asks for one. A `NewState` is as seldom as its ask.
 fn long_packet(packet: &EpochPacket) -> Option<LongPacket> {
-    let (kind, view, base, entries) = match packet.packet.message() {
-        Message::DoViewChange { view, log, .. } => (LongKind::DoViewChange, *view, 0, log),
-        Message::StartView { view, log, .. } => (LongKind::StartView, *view, 0, log),
-        Message::NewState {
-            view,
-            base,
-            entries,
-            ..
-        } if packet.purpose == Purpose::Tell => (LongKind::NewState, *view, *base, entries),
+    let (kind, view, entries) = match packet.packet.message() {
+        Message::DoViewChange { view, log, .. } => (LongKind::DoViewChange, *view, log),
+        Message::StartView { view, log, .. } => (LongKind::StartView, *view, log),
         Message::GetState { view, base, .. } => return ask_by_rules(packet, *view, *base),
         _ => return None,
     };
@@ -65,15 +59,17 @@ fn long_packet(packet: &EpochPacket) -> Option<LongPacket> {
         purpose: packet.purpose,
         kind,
         view,
-        base,
+        base: 0,
     })
 }
 
-/// The long packet that came last for a node, and how often it came again since it was put.
+/// The long packet, or the ask, that came last for a node, how often it came again since it was put, and when an ask
+/// was put, where the clock said it.
 #[derive(Clone, Copy)]
 pub(crate) struct Repeats {
     last: Option<LongPacket>,
     since: u32,
+    put: Option<Instant>,
 }
 
 impl Repeats {
@@ -82,6 +78,7 @@ impl Repeats {
         Repeats {
             last: None,
             since: 0,
+            put: None,
         }
     }
 
@@ -95,26 +92,39 @@ impl Repeats {
         true
     }
 
-    /// Whether an ask that came again is to be put. A node that lacks entries asks at each packet of its primary, and
-    /// that copies all of them each time. One that was lost is soon put again.
-    fn admit_ask(&mut self) -> bool {
-        self.since = self.since.wrapping_add(1);
-        matches!(self.since, 1 | 16 | 256 | 1_024) || self.since % ASKS_A_PUT == 0
+    /// Whether an ask that came again is to be put, since it was put long ago. A node that lacks entries asks at each
+    /// packet of its primary, and that copies all of them each time. One that was lost is soon put again.
+    fn admit_ask<R: Clock>(&mut self, rt: &R) -> bool {
+        let is_due = match self.put {
+            Some(put) => match put.elapsed(rt) {
+                Ok(passed) => passed.as_millis() >= ASK_MILLISECONDS,
+                Err(_) => true,
+            },
+            None => true,
+        };
+        if is_due {
+            self.put = Instant::now(rt).ok();
+        }
+        is_due
     }
 
     /// Whether a packet is to be put: it is not long and asks for none, or is another than the one that came last, or
     /// that one once more, as `admit_log` and `admit_ask` say.
-    pub(crate) fn admit(&mut self, packet: &EpochPacket) -> bool {
+    pub(crate) fn admit<R: Clock>(&mut self, rt: &R, packet: &EpochPacket) -> bool {
         let Some(long) = long_packet(packet) else {
             return true;
         };
+        let is_ask = long.kind == LongKind::GetState;
         if self.last != Some(long) {
-            self.last = Some(long);
-            self.since = 0;
+            *self = Repeats {
+                last: Some(long),
+                since: 0,
+                put: if is_ask { Instant::now(rt).ok() } else { None },
+            };
             return true;
         }
-        if long.kind == LongKind::GetState {
-            return self.admit_ask();
+        if is_ask {
+            return self.admit_ask(rt);
         }
         self.admit_log()
     }

@@ -24,6 +24,7 @@ use desk_network::laws::queues;
 use desk_threads::Out;
 use sqlite::Alter;
 use std::sync::Wait;
+use std::time::Clock;
 
 /// That nodes are a group of which `desk_group::group` speaks: they take turns as `Keeper::run_turns` promises them,
 /// put packets into queues as `desk_network` does, and take no packet that was not put before into a queue to them. It
@@ -40,7 +41,7 @@ pub fn nodes<O: Out, S: StateStore>()
 
 /// That the nodes which `desk_network` serves are such nodes: their keepers' packets are put into the queues of
 /// `QueuedPackets`. It does nothing: its clause is the fact.
-pub fn served_nodes<W: Wait + Drop, S: StateStore>()
+pub fn served_nodes<W: Wait + Clock + Drop, S: StateStore>()
     ensures groups { RunAsGroups ⟦<QueuedPackets<W> as Out>⟧ S.StateStore queue_ends }
 {
     queues::<W>();
@@ -64,7 +65,7 @@ pub fn epoch_nodes<O: Out, T: EpochStores>()
 
 /// That the nodes over epochs which `desk_network` serves are such nodes: their keepers' packets are put into the
 /// queues of `QueuedPackets`. It does nothing: its clauses are the facts.
-pub fn served_epoch_nodes<W: Wait + Drop, T: EpochStores>()
+pub fn served_epoch_nodes<W: Wait + Clock + Drop, T: EpochStores>()
     // What happens among them happens in a group that has their keepers.
     ensures groups { RunAsEpochGroups T.may_hold T.Store.StateStore ⟦<QueuedPackets<W> as Out>⟧ queue_ends }
     // What two of them have published, then and later, is one a prefix of the other.
@@ -89,7 +90,7 @@ pub fn epoch_members<O: Out, T: EpochStores>()
 
 /// That the nodes of any tokens which `desk_network` serves are such nodes: their keepers' packets are put into the
 /// queues of `QueuedPackets`. It does nothing: its clauses are the facts.
-pub fn served_epoch_members<W: Wait + Drop, T: EpochStores>()
+pub fn served_epoch_members<W: Wait + Clock + Drop, T: EpochStores>()
     // What happens among them happens in a group that has their keepers.
     ensures groups { RunAsTokenGroups T.may_hold T.Store.StateStore ⟦<QueuedPackets<W> as Out>⟧ queue_ends }
     // What two of them have published, then and later, is one a prefix of the other.

@@ -7,6 +7,7 @@ use desk_types::{
 use std::alloc::Global;
 use std::sync::Wait;
 use std::test::Fail;
+use std::time::{Clock, Duration};
 
 /// How often each packet comes.
 const TIMES: u64 = 20;
@@ -71,7 +72,7 @@ fn offer_after(alloc: Global, time: u64, entries: usize, differs: Differs) -> Op
 }
 
 /// How many offers are put for node 0.
-fn count_put<R: Wait + Drop>(
+fn count_put<R: Wait + Clock + Drop>(
     alloc: Global,
     queues: &mut PeerQueues<R>,
     entries: usize,
@@ -87,7 +88,7 @@ fn count_put<R: Wait + Drop>(
 }
 
 /// How many offers are put into new queues.
-fn put_of<R: Wait + Drop + Copy>(
+fn put_of<R: Wait + Clock + Drop + Copy>(
     rt: R,
     alloc: Global,
     entries: usize,
@@ -117,6 +118,45 @@ fn a_long_packet_that_comes_again_is_put_each_tenth_time(rt: HostRuntime) -> Res
     Ok(())
 }
 
+/// A past log of so many entries, as it is sent to who asked for it.
+fn past_log(alloc: Global, entries: usize) -> Option<EpochPacket> {
+    let message = Message::NewState {
+        from: 1,
+        view: 0,
+        base: 0,
+        commit: entries as u64,
+        entries: log_of(alloc, entries)?,
+    };
+    if !message.is_in_range() {
+        drop(message);
+        return None;
+    }
+    Some(EpochPacket {
+        epoch: 0,
+        purpose: Purpose::Tell,
+        packet: Packet::new(message),
+    })
+}
+
+/// How many of twenty equal past logs are put into new queues.
+fn past_logs_put<R: Wait + Clock + Drop + Copy>(rt: R, alloc: Global) -> Option<u64> {
+    let (mut queues, ends) = open_queues(rt, alloc, 1, 3).ok()?;
+    let mut put: u64 = 0;
+    for _ in 0..TIMES {
+        if queues.put(0, past_log(alloc, LONG_PACKET_ENTRIES)?) {
+            put = put.wrapping_add(1);
+        }
+    }
+    drop(queues);
+    drop(ends);
+    Some(put)
+}
+
+#[test]
+fn a_past_log_that_is_sent_again_is_put_each_time(rt: HostRuntime) {
+    assert!(rt; past_logs_put(rt, rt.alloc()) == Some(TIMES));
+}
+
 /// An ask for the entries after a place, for this purpose.
 fn ask(purpose: Purpose, base: u64) -> Option<EpochPacket> {
     let message = Message::GetState {
@@ -135,37 +175,80 @@ fn ask(purpose: Purpose, base: u64) -> Option<EpochPacket> {
     })
 }
 
-/// How many asks are put into new queues, the place of each of which is so much past that of the one before.
-fn asks_put<R: Wait + Drop + Copy>(
-    rt: R,
-    alloc: Global,
+/// Asks that come one after the other for one node, the place of each of which is so much past that of the one before,
+/// with so long between.
+#[derive(Clone, Copy)]
+struct Asks {
     purpose: Purpose,
     step: u64,
-) -> Option<u64> {
+    times: u64,
+    milliseconds: u64,
+}
+
+/// How many asks are put into new queues.
+fn asks_put<R: Wait + Clock + Drop + Copy>(rt: R, alloc: Global, asks: Asks) -> Option<u64> {
     let (mut queues, ends) = open_queues(rt, alloc, 1, 3).ok()?;
     let mut put: u64 = 0;
-    for time in 0..TIMES {
-        if queues.put(0, ask(purpose, time.wrapping_mul(step))?) {
+    for time in 0..asks.times {
+        if queues.put(0, ask(asks.purpose, time.wrapping_mul(asks.step))?) {
             put = put.wrapping_add(1);
         }
+        rt.sleep(Duration::from_millis(asks.milliseconds));
     }
     drop(queues);
     drop(ends);
     Some(put)
 }
 
-/// Of twenty equal asks by the rules the first is put, and what comes again for the first and the sixteenth time.
-const ASK_ROWS: &[(Purpose, u64, u64)] = &[
-    (Purpose::Step, 0, 3),
-    (Purpose::Step, 1, TIMES),
-    (Purpose::Ask, 0, TIMES),
+/// Asks, and how many are put at least and at most. Of equal ones by the rules one is put in 200 ms; a busy host may
+/// stop for some of these.
+const ASK_ROWS: &[(Asks, u64, u64)] = &[
+    (
+        Asks {
+            purpose: Purpose::Step,
+            step: 0,
+            times: TIMES,
+            milliseconds: 0,
+        },
+        1,
+        10,
+    ),
+    (
+        Asks {
+            purpose: Purpose::Step,
+            step: 0,
+            times: 3,
+            milliseconds: 250,
+        },
+        3,
+        3,
+    ),
+    (
+        Asks {
+            purpose: Purpose::Step,
+            step: 1,
+            times: TIMES,
+            milliseconds: 0,
+        },
+        TIMES,
+        TIMES,
+    ),
+    (
+        Asks {
+            purpose: Purpose::Ask,
+            step: 0,
+            times: TIMES,
+            milliseconds: 0,
+        },
+        TIMES,
+        TIMES,
+    ),
 ];
 
 #[test]
-fn an_ask_that_comes_again_is_put_less_and_less(rt: HostRuntime) -> Result<(), Fail> {
-    let alloc = rt.alloc();
-    for (purpose, step, wanted) in ASK_ROWS {
-        assert!(rt; asks_put(rt, alloc, *purpose, *step) == Some(*wanted));
+fn an_ask_that_comes_again_is_put_once_in_200_milliseconds(rt: HostRuntime) {
+    for (asks, least, most) in ASK_ROWS {
+        let put = asks_put(rt, rt.alloc(), *asks).unwrap_or(0);
+        assert!(rt; *least <= put && put <= *most, "{put}");
     }
-    Ok(())
 }
