@@ -19,26 +19,44 @@ fn is_behind(out: &[u8], bytes: &[u8]) -> bool {
     piece(out, 0, 6) == BEFORE && piece(out, 6, out.len()) == bytes
 }
 
-/// Whether a body is put; or memory is refused, the output is as it was, and the body is put when asked again.
-fn is_body_put(alloc: Global, command: &Command, body: &[u8]) -> bool {
+/// A value that has a spelling. What is done with it is generic over it: a proof takes longer where its type is known.
+trait Spelled {
+    /// Puts its bytes, unless memory is refused: whether it did.
+    fn is_put(&self, out: &mut Vec<u8>) -> bool;
+}
+
+impl Spelled for Command {
+    fn is_put(&self, out: &mut Vec<u8>) -> bool {
+        put_body(self, out).is_ok()
+    }
+}
+
+impl Spelled for Entry {
+    fn is_put(&self, out: &mut Vec<u8>) -> bool {
+        put_entry(self, out).is_ok()
+    }
+}
+
+impl Spelled for Packet {
+    fn is_put(&self, out: &mut Vec<u8>) -> bool {
+        put_packet(self, out).is_ok()
+    }
+}
+
+/// Whether a value is put; or memory is refused, the output is as it was, and the value is put when asked again.
+fn is_put_at_last<T: Spelled + Drop>(alloc: Global, value: T, bytes: &[u8]) -> bool {
     let Ok(mut out) = joined(alloc, &[BEFORE]) else {
         return true;
     };
-    let is_put = match put_body(command, &mut out) {
-        Ok(()) => true,
-        Err(_) => is_behind(out.as_slice(), &[]) && put_body(command, &mut out).is_ok(),
-    };
-    is_put && is_behind(out.as_slice(), body)
+    let is_put = value.is_put(&mut out)
+        || (is_behind(out.as_slice(), &[]) && value.is_put(&mut out));
+    is_put && is_behind(out.as_slice(), bytes)
 }
 
 /// Whether a body is read and put so; or memory is refused, by `WantOfMemory`, and it is read when asked again.
 pub fn is_body_done_or_undone(alloc: Global, body: &[u8]) -> bool {
     match get_body(alloc, body) {
-        Ok(command) => {
-            let answer = is_body_put(alloc, &command, body);
-            drop(command);
-            answer
-        }
+        Ok(command) => is_put_at_last(alloc, command, body),
         Err(fault) => fault.refusal.number() == 40 && body_again(alloc, body) == 0,
     }
 }
@@ -48,26 +66,10 @@ fn a_body_is_done_or_undone(rt: HostRuntime) {
     assert!(rt; first_row(rt.alloc(), BODIES, Check::Body) == None);
 }
 
-/// As `is_body_put`.
-fn is_entry_put(alloc: Global, entry: &Entry, bytes: &[u8]) -> bool {
-    let Ok(mut out) = joined(alloc, &[BEFORE]) else {
-        return true;
-    };
-    let is_put = match put_entry(entry, &mut out) {
-        Ok(()) => true,
-        Err(_) => is_behind(out.as_slice(), &[]) && put_entry(entry, &mut out).is_ok(),
-    };
-    is_put && is_behind(out.as_slice(), bytes)
-}
-
 /// As `is_body_done_or_undone`, of the first entry.
 fn is_entry_done_or_undone(alloc: Global) -> bool {
     match get_entry(alloc, ENTRY) {
-        Ok(found) => {
-            let answer = is_entry_put(alloc, &found.0, ENTRY);
-            drop(found);
-            answer
-        }
+        Ok((entry, _)) => is_put_at_last(alloc, entry, ENTRY),
         Err(fault) => fault.refusal.number() == 40 && reads_first_entry(alloc, ENTRY),
     }
 }
@@ -77,26 +79,10 @@ fn an_entry_is_done_or_undone(rt: HostRuntime) {
     assert!(rt; is_entry_done_or_undone(rt.alloc()));
 }
 
-/// As `is_body_put`.
-fn is_packet_put(alloc: Global, packet: &Packet, bytes: &[u8]) -> bool {
-    let Ok(mut out) = joined(alloc, &[BEFORE]) else {
-        return true;
-    };
-    let is_put = match put_packet(packet, &mut out) {
-        Ok(()) => true,
-        Err(_) => is_behind(out.as_slice(), &[]) && put_packet(packet, &mut out).is_ok(),
-    };
-    is_put && is_behind(out.as_slice(), bytes)
-}
-
 /// As `is_body_done_or_undone`.
 pub fn is_packet_done_or_undone(alloc: Global, bytes: &[u8]) -> bool {
     match get_packet(alloc, bytes) {
-        Ok(packet) => {
-            let answer = is_packet_put(alloc, &packet, bytes);
-            drop(packet);
-            answer
-        }
+        Ok(packet) => is_put_at_last(alloc, packet, bytes),
         Err(fault) => fault.refusal.number() == 40 && packet_again(alloc, bytes) == 0,
     }
 }

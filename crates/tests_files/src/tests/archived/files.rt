@@ -5,7 +5,7 @@ use desk_archive::{Archived, archive_database, archived_owner};
 use desk_log::{Log, Saved};
 use desk_saved::SavedState;
 use desk_types::{Domain, Owner};
-use sqlite::{Connection, MemStore};
+use sqlite::{Alter, Connection};
 use std::alloc::Global;
 use tests_streams::Sink;
 
@@ -122,18 +122,23 @@ fn saved(alloc: Global, commit: u64) -> Option<Saved> {
     Some(Saved::new(0, 0, log, commit))
 }
 
-/// The database of node 1's file with that state.
-fn file(alloc: Global, commit: u64) -> Option<Connection<MemStore>> {
-    let connection = Connection::open_in_memory(alloc).ok()?;
+/// Makes a database node 1's file with that state.
+// It is generic over the pages: a proof takes longer where the type of a database is known.
+fn file<S: Alter + Drop>(
+    alloc: Global,
+    connection: Connection<S>,
+    commit: u64,
+) -> Option<Connection<S>> {
     let state = saved(alloc, commit)?;
-    let mut file = SavedState::open(alloc, connection, owner(alloc, 1)?).ok()?;
-    file.save(&state).ok()?;
-    Some(file.into_connection())
+    let owner = owner(alloc, 1)?;
+    let mut file = SavedState::open(alloc, connection, owner).ok()?;
+    let is_saved = file.save(&state).is_ok();
+    let connection = file.into_connection();
+    if is_saved { Some(connection) } else { None }
 }
 
-/// What is written of a row's file, where it counts as committed what it has.
-fn written(alloc: Global, row: &Row) -> Option<Sink> {
-    let connection = file(alloc, row.commit)?;
+/// What is written of a file, where it counts as committed what it has.
+fn archived<S: Alter + Drop>(alloc: Global, connection: Connection<S>, row: &Row) -> Option<Sink> {
     let mut sink = Sink::in_pieces(Vec::new(alloc), 4_096);
     let owner = owner(alloc, 1)?;
     let Archived { result, .. } = archive_database(
@@ -143,6 +148,20 @@ fn written(alloc: Global, row: &Row) -> Option<Sink> {
         return None;
     }
     Some(sink)
+}
+
+/// What is written of a row's file, in an empty database.
+fn written<S: Alter + Drop>(alloc: Global, connection: Connection<S>, row: &Row) -> Option<Sink> {
+    let connection = file(alloc, connection, row.commit)?;
+    archived(alloc, connection, row)
+}
+
+/// Whether the lines of a row are written of its file, in an empty database.
+fn is_written<S: Alter + Drop>(alloc: Global, connection: Connection<S>, row: &Row) -> bool {
+    match written(alloc, connection, row) {
+        Some(sink) => are_lines_of(row, sink.bytes.as_slice()),
+        None => false,
+    }
 }
 
 /// Whether these are the lines of a row.
@@ -164,33 +183,75 @@ fn are_lines_of(row: &Row, bytes: &[u8]) -> bool {
 #[test]
 fn committed_entries_are_written_from_a_place_on(rt: HostRuntime) {
     for row in ROWS {
-        let sink = written(rt.alloc(), &row);
-        let is_right = match &sink {
-            Some(sink) => are_lines_of(&row, sink.bytes.as_slice()),
-            None => false,
+        let is_right = match Connection::open_in_memory(rt.alloc()) {
+            Ok(connection) => is_written(rt.alloc(), connection, &row),
+            Err(_) => false,
         };
         assert!(rt; is_right, "{} {} {}", row.commit, row.past, row.from);
     }
 }
 
-/// Whether node 1's file, or an empty database, is refused as none of the node whose files came before.
-fn is_refused(alloc: Global, file: Option<Connection<MemStore>>, before: &Option<Owner>) -> bool {
-    let Some(mut connection) = file else {
-        return false;
-    };
-    match archived_owner(alloc, &mut connection, before) {
+/// Whose files came before.
+#[derive(Clone, Copy)]
+enum Before {
+    Nobody,
+    Node(u8),
+}
+
+/// The node whose files came before.
+fn owner_before(alloc: Global, before: Before) -> Option<Owner> {
+    match before {
+        Before::Nobody => None,
+        Before::Node(id) => owner(alloc, id),
+    }
+}
+
+/// Whether a database is refused as none of the node whose files came before.
+fn is_refused<S: Alter + Drop>(alloc: Global, connection: Connection<S>, before: Before) -> bool {
+    let mut connection = connection;
+    match archived_owner(alloc, &mut connection, &owner_before(alloc, before)) {
         Ok(_) => false,
         Err(refusal) => refusal.number() == 45,
     }
 }
 
+/// Whether node 1's file, in an empty database, is refused as none of the node whose files came before, or is not, as
+/// it should be.
+fn is_treated<S: Alter + Drop>(
+    alloc: Global,
+    connection: Connection<S>,
+    before: Before,
+    is_refusal: bool,
+) -> bool {
+    match file(alloc, connection, 3) {
+        Some(connection) => is_refused(alloc, connection, before) == is_refusal,
+        None => false,
+    }
+}
+
+/// Whose files came before node 1's, and whether that is refused.
+const FILES: [(Before, bool); 3] = [
+    (Before::Node(2), true),
+    (Before::Node(1), false),
+    (Before::Nobody, false),
+];
+
 #[test]
-fn files_of_nobody_and_of_others_are_refused(rt: HostRuntime) {
-    let alloc = rt.alloc();
-    let (none, same, other) = (None, owner(alloc, 1), owner(alloc, 2));
-    assert!(rt; is_refused(alloc, Connection::open_in_memory(alloc).ok(), &none));
-    assert!(rt; is_refused(alloc, file(alloc, 3), &other));
-    assert!(rt;
-        !is_refused(alloc, file(alloc, 3), &same) && !is_refused(alloc, file(alloc, 3), &none)
-    );
+fn files_of_others_are_refused(rt: HostRuntime) {
+    for (before, is_refusal) in FILES {
+        let is_right = match Connection::open_in_memory(rt.alloc()) {
+            Ok(connection) => is_treated(rt.alloc(), connection, before, is_refusal),
+            Err(_) => false,
+        };
+        assert!(rt; is_right, "{is_refusal}");
+    }
+}
+
+#[test]
+fn a_file_of_nobody_is_refused(rt: HostRuntime) {
+    let is_right = match Connection::open_in_memory(rt.alloc()) {
+        Ok(connection) => is_refused(rt.alloc(), connection, Before::Nobody),
+        Err(_) => false,
+    };
+    assert!(rt; is_right);
 }

@@ -37,7 +37,7 @@ pub struct MemoryDatabases {
     alloc: Global,
     files: Vec<MemoryFile>,
     /// What fails of a database that is opened from now on.
-    pub stop: Option<Stop>,
+    stop: Option<Stop>,
 }
 
 /// How many calls of a file pass.
@@ -90,9 +90,32 @@ impl MemoryFile {
     }
 }
 
-impl MemoryDatabases {
+/// Databases that a test changes.
+pub trait Databases {
     /// No file at all.
-    pub fn new(alloc: Global) -> MemoryDatabases {
+    fn empty(alloc: Global) -> Self;
+
+    /// A copy of them, of which no file fails.
+    fn copy(&self) -> Option<Self>;
+
+    /// How many files there are.
+    fn count(&self) -> usize;
+
+    /// Whether the file of this name has the same bytes there.
+    fn is_same(&self, other: &Self, name: &str) -> bool;
+
+    /// Gives a file another name.
+    fn rename(&mut self, name: &str, other: &str) -> Option<()>;
+
+    /// Takes out all bytes of a file.
+    fn cut(&mut self, name: &str) -> Option<()>;
+
+    /// This fails of a database that is opened from now on, or nothing.
+    fn fail(&mut self, stop: Option<Stop>);
+}
+
+impl Databases for MemoryDatabases {
+    fn empty(alloc: Global) -> MemoryDatabases {
         MemoryDatabases {
             alloc,
             files: Vec::new(alloc),
@@ -100,8 +123,7 @@ impl MemoryDatabases {
         }
     }
 
-    /// A copy of them, of which no file fails.
-    pub fn copy(&self) -> Option<MemoryDatabases> {
+    fn copy(&self) -> Option<MemoryDatabases> {
         let mut files = Vec::new(self.alloc);
         for file in &self.files {
             files.push(file.copy(self.alloc).ok()?).ok()?;
@@ -113,13 +135,11 @@ impl MemoryDatabases {
         })
     }
 
-    /// How many files there are.
-    pub fn count(&self) -> usize {
+    fn count(&self) -> usize {
         self.files.len()
     }
 
-    /// Whether the file of this name has the same bytes there.
-    pub fn is_same(&self, other: &MemoryDatabases, name: &str) -> bool {
+    fn is_same(&self, other: &MemoryDatabases, name: &str) -> bool {
         let (Some(at), Some(there)) = (self.find(name), other.find(name)) else {
             return false;
         };
@@ -129,15 +149,7 @@ impl MemoryDatabases {
         }
     }
 
-    /// Where the file of this name stands.
-    fn find(&self, name: &str) -> Option<usize> {
-        self.files
-            .iter()
-            .position(|file| file.name.as_str() == name)
-    }
-
-    /// Gives a file another name.
-    pub fn rename(&mut self, name: &str, other: &str) -> Option<()> {
+    fn rename(&mut self, name: &str, other: &str) -> Option<()> {
         let at = self.find(name)?;
         let other = String::from_str(self.alloc, other).ok()?;
         let file = self.files.get_mut(at)?;
@@ -145,13 +157,25 @@ impl MemoryDatabases {
         Some(())
     }
 
-    /// Takes out all bytes of a file.
-    pub fn cut(&mut self, name: &str) -> Option<()> {
+    fn cut(&mut self, name: &str) -> Option<()> {
         let at = self.find(name)?;
         let file = self.files.get_mut(at)?;
         file.db.clear();
         file.log.clear();
         Some(())
+    }
+
+    fn fail(&mut self, stop: Option<Stop>) {
+        self.stop = stop;
+    }
+}
+
+impl MemoryDatabases {
+    /// Where the file of this name stands.
+    fn find(&self, name: &str) -> Option<usize> {
+        self.files
+            .iter()
+            .position(|file| file.name.as_str() == name)
     }
 
     /// Copies of the file of this name, which is made where it is missing, and of its log.

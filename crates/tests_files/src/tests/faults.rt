@@ -2,8 +2,8 @@
 
 ghost use Rattle.std.specs.Prelude.{◌≡◌};
 
-use super::databases::MemoryDatabases;
-use super::files::{MOST, NODE_0, Node, files_of, run_of};
+use super::databases::Databases;
+use super::files::{MOST, NODE_0, Node, NodeFiles, Trial, WORDS, Words, passes_in_memory, run_of};
 use super::starts::{Start, start};
 use desk_epoch_stores::{EpochStores, OpenedEpoch};
 use desk_types::Refusal;
@@ -23,7 +23,7 @@ enum Damage {
 }
 
 impl Damage {
-    fn does(self, databases: &mut MemoryDatabases) -> Option<()> {
+    fn does<D: Databases>(self, databases: &mut D) -> Option<()> {
         match self {
             Damage::None => Some(()),
             Damage::Lose(name) => databases.rename(name, "lost"),
@@ -128,31 +128,30 @@ fn refusal_of<T: EpochStores>(alloc: Global, files: &mut T) -> Option<Refusal> {
     }
 }
 
-/// What is printed where a node does not start with the files of a row.
-fn printed(alloc: Global, row: &Row) -> Option<Sink> {
-    let mut databases = run_of(alloc, NODE_0, &[MOST, MOST, 2])?;
+/// The files of a row.
+fn files_of<F: NodeFiles + Drop>(alloc: Global, row: &Row) -> Option<F> {
+    let mut databases = run_of::<F>(alloc, &[MOST, MOST, 2])?;
     row.0.does(&mut databases)?;
-    let mut files = files_of(alloc, databases, row.1, false)?;
-    let refusal = refusal_of(alloc, &mut files)?;
-    let mut sink = Sink::whole(Vec::new(alloc));
-    let _ = files.refusal_status(&mut sink, &refusal);
-    Some(sink)
+    let node = row.1;
+    F::of(alloc, databases, Words { node, ..WORDS })
 }
 
-#[test]
-fn other_files_are_refused_by_name(rt: HostRuntime) {
-    for (index, row) in ROWS.iter().enumerate() {
-        let is_printed = match printed(rt.alloc(), row) {
-            Some(sink) => sink.bytes.as_slice() == row.2.as_bytes(),
-            None => false,
-        };
-        assert!(rt; is_printed, "{}", index);
-    }
+/// Whether that of a row is printed where a node does not start with its files.
+fn is_refused<F: NodeFiles + Drop>(alloc: Global, row: &Row) -> bool {
+    let Some(mut files) = files_of::<F>(alloc, row) else {
+        return false;
+    };
+    let Some(refusal) = refusal_of(alloc, &mut files) else {
+        return false;
+    };
+    let mut sink = Sink::whole(Vec::new(alloc));
+    files.print(&mut sink, &refusal);
+    sink.bytes.as_slice() == row.2.as_bytes()
 }
 
 /// A first file that has ended, as a desk of one file leaves it, and with a third one where `has_third`.
-fn ended_file(alloc: Global, has_third: bool) -> Option<MemoryDatabases> {
-    let mut databases = run_of(alloc, NODE_0, &[MOST, 1])?;
+fn ended_file<F: NodeFiles + Drop>(alloc: Global, has_third: bool) -> Option<F::Databases> {
+    let mut databases = run_of::<F>(alloc, &[MOST, 1])?;
     databases.rename("desk.1", "lost")?;
     if !has_third {
         databases.rename("desk.2", "lost")?;
@@ -161,16 +160,65 @@ fn ended_file(alloc: Global, has_third: bool) -> Option<MemoryDatabases> {
 }
 
 /// Where a node starts with such files, or the number of the refusal, where an operator asks for a second one or not.
-fn start_ended(alloc: Global, has_third: bool, adds_second: bool) -> Option<Result<Start, u8>> {
-    let databases = ended_file(alloc, has_third)?;
-    let mut files = files_of(alloc, databases, NODE_0, adds_second)?;
+fn start_ended<F: NodeFiles + Drop>(
+    alloc: Global,
+    has_third: bool,
+    adds_second: bool,
+) -> Option<Result<Start, u8>> {
+    let databases = ended_file::<F>(alloc, has_third)?;
+    let words = Words {
+        adds_second,
+        ..WORDS
+    };
+    let mut files = F::of(alloc, databases, words)?;
     Some(start(alloc, &mut files))
+}
+
+/// Whether such files have a third one, whether an operator asks for a second one, and where a node starts then.
+const SECOND: &[(bool, bool, Result<Start, u8>)] = &[
+    (false, false, Err(45)),
+    (false, true, Ok((1, 4, 0))),
+    (true, true, Err(45)),
+];
+
+/// A start over files that are not as a node left them, by a row.
+#[derive(Clone, Copy)]
+enum Faulty {
+    Files(usize),
+    Second(usize),
+}
+
+impl Trial for Faulty {
+    fn passes<F: NodeFiles + Drop>(&self, alloc: Global) -> bool {
+        match self {
+            Faulty::Files(index) => match ROWS.get(*index) {
+                Some(row) => is_refused::<F>(alloc, row),
+                None => false,
+            },
+            Faulty::Second(index) => match SECOND.get(*index) {
+                Some(row) => start_ended::<F>(alloc, row.0, row.1) == Some(row.2),
+                None => false,
+            },
+        }
+    }
+}
+
+#[test]
+fn other_files_are_refused_by_name(rt: HostRuntime) {
+    for index in 0..ROWS.len() {
+        assert!(rt;
+            passes_in_memory(rt.alloc(), &Faulty::Files(index)),
+            "{index}"
+        );
+    }
 }
 
 #[test]
 fn a_second_file_is_added_to_one_that_has_ended(rt: HostRuntime) {
-    let alloc = rt.alloc();
-    assert!(rt; start_ended(alloc, false, false) == Some(Err(45)));
-    assert!(rt; start_ended(alloc, false, true) == Some(Ok((1, 4, 0))));
-    assert!(rt; start_ended(alloc, true, true) == Some(Err(45)));
+    for index in 0..SECOND.len() {
+        assert!(rt;
+            passes_in_memory(rt.alloc(), &Faulty::Second(index)),
+            "{index}"
+        );
+    }
 }

@@ -3,25 +3,24 @@
 
 ghost use Rattle.std.specs.Prelude.{◌≡◌};
 
-use super::databases::MemoryDatabases;
-use super::files::{MOST, NODE_0, files_of, run_of};
+use super::files::{MOST, NodeFiles, Trial, WORDS, passes_in_memory, run_of};
 use super::starts::start;
 use std::alloc::Global;
 
 /// The files of two epochs, made again where memory for them is refused.
-fn databases_at_last(alloc: Global) -> Option<MemoryDatabases> {
-    match run_of(alloc, NODE_0, &[MOST, 1]) {
+fn databases_at_last<F: NodeFiles + Drop>(alloc: Global) -> Option<F::Databases> {
+    match run_of::<F>(alloc, &[MOST, 1]) {
         Some(databases) => Some(databases),
-        None => run_of(alloc, NODE_0, &[MOST, 1]),
+        None => run_of::<F>(alloc, &[MOST, 1]),
     }
 }
 
 /// Whether a node starts where its files end, or is refused by 40 or 41 and starts there the next time.
-fn starts_at_last(alloc: Global) -> bool {
-    let Some(databases) = databases_at_last(alloc) else {
+fn starts_at_last<F: NodeFiles + Drop>(alloc: Global) -> bool {
+    let Some(databases) = databases_at_last::<F>(alloc) else {
         return false;
     };
-    let Some(mut files) = files_of(alloc, databases, NODE_0, false) else {
+    let Some(mut files) = F::of(alloc, databases, WORDS) else {
         return true;
     };
     match start(alloc, &mut files) {
@@ -30,7 +29,17 @@ fn starts_at_last(alloc: Global) -> bool {
     }
 }
 
+/// A start for which memory may be refused.
+#[derive(Clone, Copy)]
+struct Start;
+
+impl Trial for Start {
+    fn passes<F: NodeFiles + Drop>(&self, alloc: Global) -> bool {
+        starts_at_last::<F>(alloc)
+    }
+}
+
 #[test]
 fn a_start_without_memory_is_made_again(rt: HostRuntime) {
-    assert!(rt; starts_at_last(rt.alloc()));
+    assert!(rt; passes_in_memory(rt.alloc(), &Start));
 }

@@ -3,8 +3,8 @@
 
 use super::entry_of;
 use desk_archive::document_line;
-use desk_program::run_words;
-use desk_types::HashSeed;
+use desk_replay::replay_lines;
+use desk_types::Domain;
 use std::alloc::{AllocError, Global};
 use tests_streams::{Sink, Source};
 
@@ -168,19 +168,10 @@ fn lines_of(alloc: Global, documents: &str) -> Option<String> {
 
 /// What a replay of documents writes.
 fn replayed(alloc: Global, documents: &str) -> Option<Sink> {
+    let domain = Domain::new(alloc, "desk.example").ok()?;
     let mut source = Source::in_pieces(documents.as_bytes(), 4_096);
     let mut sink = Sink::in_pieces(Vec::new(alloc), 4_096);
-    let mut errors = Vec::new(alloc);
-    let words = ["replay", "--domain", "desk.example"];
-    let ran = run_words(
-        alloc,
-        HashSeed::new(0),
-        &words,
-        &mut source,
-        &mut sink,
-        &mut errors,
-    );
-    if ran.is_err() {
+    if replay_lines(alloc, &mut source, &mut sink, domain).is_err() {
         return None;
     }
     Some(sink)

@@ -2,10 +2,9 @@
 
 ghost use Rattle.std.specs.Prelude.{◌≡◌};
 
-use super::databases::{MemoryDatabases, Stop};
-use super::files::{NODE_0, files_of, run_of};
+use super::databases::{Databases, Stop};
+use super::files::{NodeFiles, Trial, WORDS, passes_in_memory, run_of};
 use super::starts::{Start, start};
-use desk_epoch_files::EpochFiles;
 use std::alloc::Global;
 
 /// How many entries each epoch has committed, the file that is lost then, the token that is named for the node, how it
@@ -31,8 +30,8 @@ const ROWS: &[Row] = &[
 ];
 
 /// The databases before a start.
-fn databases_before(alloc: Global, row: &Row) -> Option<MemoryDatabases> {
-    let mut databases = run_of(alloc, NODE_0, row.0)?;
+fn databases_before<F: NodeFiles + Drop>(alloc: Global, row: &Row) -> Option<F::Databases> {
+    let mut databases = run_of::<F>(alloc, row.0)?;
     if !row.1.is_empty() {
         databases.rename(row.1, "lost")?;
     }
@@ -40,13 +39,9 @@ fn databases_before(alloc: Global, row: &Row) -> Option<MemoryDatabases> {
 }
 
 /// Where a node starts with its files, with a token or not, or the number of the refusal.
-fn start_with(
-    alloc: Global,
-    files: &mut EpochFiles<MemoryDatabases>,
-    token: Option<u64>,
-) -> Result<Start, u8> {
+fn start_with<F: NodeFiles>(alloc: Global, files: &mut F, token: Option<u64>) -> Result<Start, u8> {
     if token.is_some() {
-        match files.start_member(token) {
+        match files.start(token) {
             Ok(_) => {}
             Err(refusal) => return Err(refusal.number()),
         }
@@ -54,45 +49,50 @@ fn start_with(
     start(alloc, files)
 }
 
+/// Where a node starts with databases of which this fails, or the number of the refusal; and what they are then.
+fn start_over<F: NodeFiles + Drop>(
+    alloc: Global,
+    databases: F::Databases,
+    token: Option<u64>,
+    stop: Option<Stop>,
+) -> Option<(Result<Start, u8>, F::Databases)> {
+    let mut databases = databases;
+    databases.fail(stop);
+    let mut files = F::of(alloc, databases, WORDS)?;
+    let start = start_with(alloc, &mut files, token);
+    Some((start, files.into_parts()))
+}
+
 /// Where a node starts with copies of databases, or the number of the refusal; and where it starts with the same ones
 /// again, of which nothing fails then.
-fn starts(
+fn starts<F: NodeFiles + Drop>(
     alloc: Global,
-    before: &MemoryDatabases,
+    before: &F::Databases,
     token: Option<u64>,
     stop: Stop,
 ) -> Option<(Result<Start, u8>, Result<Start, u8>)> {
-    let mut databases = before.copy()?;
-    databases.stop = Some(stop);
-    let mut files = files_of(alloc, databases, NODE_0, false)?;
-    let first = start_with(alloc, &mut files, token);
-    let mut databases = files.into_databases();
-    databases.stop = None;
-    let mut files = files_of(alloc, databases, NODE_0, false)?;
-    Some((first, start_with(alloc, &mut files, token)))
+    let (first, databases) = start_over::<F>(alloc, before.copy()?, token, Some(stop))?;
+    let (second, _) = start_over::<F>(alloc, databases, token, None)?;
+    Some((first, second))
 }
 
 /// Stops a file at each of its calls in turn, until a node starts: how many starts were refused. Each of them is by 41,
 /// and the next one ends as it would with no stop. None where one does not.
-fn count_stops(
+fn count_stops<F: NodeFiles + Drop>(
     alloc: Global,
-    before: &MemoryDatabases,
+    before: &F::Databases,
     row: &Row,
     name: &'static str,
     is_log: bool,
 ) -> Option<u64> {
     let mut stops = 0u64;
     for calls in 0..1_000u64 {
-        let (first, second) = starts(
-            alloc,
-            before,
-            row.2,
-            Stop {
-                name,
-                is_log,
-                calls,
-            },
-        )?;
+        let stop = Stop {
+            name,
+            is_log,
+            calls,
+        };
+        let (first, second) = starts::<F>(alloc, before, row.2, stop)?;
         match first {
             _ if second != Ok(row.3) => return None,
             Ok(start) if start == row.3 => return Some(stops),
@@ -104,20 +104,36 @@ fn count_stops(
 }
 
 /// Whether a start is stopped at some call of a file and of its log, and the next one is made.
-fn is_stopped_well(alloc: Global, row: &Row, name: &'static str) -> bool {
-    let Some(before) = databases_before(alloc, row) else {
+fn is_stopped_well<F: NodeFiles + Drop>(alloc: Global, row: &Row, name: &'static str) -> bool {
+    let Some(before) = databases_before::<F>(alloc, row) else {
         return false;
     };
-    let of_log = count_stops(alloc, &before, row, name, true).unwrap_or(0);
-    let of_database = count_stops(alloc, &before, row, name, false).unwrap_or(0);
+    let of_log = count_stops::<F>(alloc, &before, row, name, true).unwrap_or(0);
+    let of_database = count_stops::<F>(alloc, &before, row, name, false).unwrap_or(0);
     of_log > 0 && of_database > 0
+}
+
+/// Starts of a row that a file of this name stops.
+#[derive(Clone, Copy)]
+struct Stopped {
+    row: &'static Row,
+    name: &'static str,
+}
+
+impl Trial for Stopped {
+    fn passes<F: NodeFiles + Drop>(&self, alloc: Global) -> bool {
+        is_stopped_well::<F>(alloc, self.row, self.name)
+    }
 }
 
 #[test]
 fn a_start_that_a_file_stops_is_made_again(rt: HostRuntime) {
     for row in ROWS {
         for name in row.4 {
-            assert!(rt; is_stopped_well(rt.alloc(), row, name), "{}", name);
+            assert!(rt;
+                passes_in_memory(rt.alloc(), &Stopped { row, name }),
+                "{name}"
+            );
         }
     }
 }
