@@ -9,3 +9,4 @@ mod members;
 mod memory;
 mod starts;
 mod stops;
+mod tried;

@@ -3,7 +3,8 @@
 ghost use Rattle.std.specs.Prelude.{◌≡◌};
 
 use super::databases::Databases;
-use super::files::{MOST, NodeFiles, Trial, WORDS, passes_in_memory, run_of};
+use super::files::{MOST, NodeFiles, Trial, WORDS, run_of};
+use super::tried::{Tried, passes_in_memory};
 use desk_epoch_stores::EndedStores;
 use desk_types::Refusal;
 use std::alloc::Global;
@@ -91,7 +92,7 @@ fn is_printed<F: NodeFiles + Drop>(alloc: Global, refusal: &Refusal, wanted: &st
 
 /// What is printed of a node.
 #[derive(Clone, Copy)]
-enum Printed {
+pub enum Printed {
     /// At its end, by a row.
     End(usize),
     /// At a start in whose place another node acts.
@@ -114,7 +115,7 @@ impl Trial for Printed {
 fn an_end_is_reported_by_the_file_that_ended_it(rt: HostRuntime) {
     for index in 0..ROWS.len() {
         assert!(rt;
-            passes_in_memory(rt.alloc(), &Printed::End(index)),
+            passes_in_memory(rt.alloc(), Tried::Printed(Printed::End(index))),
             "{index}"
         );
     }
@@ -122,5 +123,5 @@ fn an_end_is_reported_by_the_file_that_ended_it(rt: HostRuntime) {
 
 #[test]
 fn a_start_of_a_replaced_node_is_reported_as_that(rt: HostRuntime) {
-    assert!(rt; passes_in_memory(rt.alloc(), &Printed::ReplacedStart));
+    assert!(rt; passes_in_memory(rt.alloc(), Tried::Printed(Printed::ReplacedStart)));
 }

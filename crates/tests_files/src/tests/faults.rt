@@ -3,8 +3,9 @@
 ghost use Rattle.std.specs.Prelude.{◌≡◌};
 
 use super::databases::Databases;
-use super::files::{MOST, NODE_0, Node, NodeFiles, Trial, WORDS, Words, passes_in_memory, run_of};
+use super::files::{MOST, NODE_0, Node, NodeFiles, Trial, WORDS, Words, run_of};
 use super::starts::{Start, start};
+use super::tried::{Tried, passes_in_memory};
 use desk_epoch_stores::{EpochStores, OpenedEpoch};
 use desk_types::Refusal;
 use std::alloc::Global;
@@ -183,7 +184,7 @@ const SECOND: &[(bool, bool, Result<Start, u8>)] = &[
 
 /// A start over files that are not as a node left them, by a row.
 #[derive(Clone, Copy)]
-enum Faulty {
+pub enum Faulty {
     Files(usize),
     Second(usize),
 }
@@ -207,7 +208,7 @@ impl Trial for Faulty {
 fn other_files_are_refused_by_name(rt: HostRuntime) {
     for index in 0..ROWS.len() {
         assert!(rt;
-            passes_in_memory(rt.alloc(), &Faulty::Files(index)),
+            passes_in_memory(rt.alloc(), Tried::Faulty(Faulty::Files(index))),
             "{index}"
         );
     }
@@ -217,7 +218,7 @@ fn other_files_are_refused_by_name(rt: HostRuntime) {
 fn a_second_file_is_added_to_one_that_has_ended(rt: HostRuntime) {
     for index in 0..SECOND.len() {
         assert!(rt;
-            passes_in_memory(rt.alloc(), &Faulty::Second(index)),
+            passes_in_memory(rt.alloc(), Tried::Faulty(Faulty::Second(index))),
             "{index}"
         );
     }

@@ -2,7 +2,7 @@
 
 ghost use Rattle.std.specs.Prelude.{◌≡◌};
 
-use super::databases::{Databases, MemoryDatabases};
+use super::databases::Databases;
 use desk_codec::get_entry;
 use desk_epoch_files::{EndedFiles, EpochFiles, NamedDatabases};
 use desk_epoch_stores::{EndedStores, EpochStores};
@@ -104,9 +104,6 @@ pub trait NodeFiles: EpochStores {
     fn into_parts(self) -> Self::Databases;
 }
 
-/// The files of a node in memory.
-type Files = EpochFiles<MemoryDatabases>;
-
 impl<D: NamedDatabases + Databases + Drop> NodeFiles for EpochFiles<D> {
     type Databases = D;
 
@@ -145,11 +142,6 @@ impl<D: NamedDatabases + Databases + Drop> NodeFiles for EpochFiles<D> {
 pub trait Trial {
     /// Whether it ends as it should.
     fn passes<F: NodeFiles + Drop>(&self, alloc: Global) -> bool;
-}
-
-/// Whether what is tried with files in memory ends as it should. Their type is named here alone.
-pub fn passes_in_memory<T: Trial>(alloc: Global, trial: &T) -> bool {
-    trial.passes::<Files>(alloc)
 }
 
 /// Saves a state in an epoch: whether it was saved and its file closed.

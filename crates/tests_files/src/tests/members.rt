@@ -3,7 +3,8 @@
 ghost use Rattle.std.specs.Prelude.{◌≡◌};
 
 use super::databases::Databases;
-use super::files::{MOST, NodeFiles, Trial, WORDS, Words, passes_in_memory};
+use super::files::{MOST, NodeFiles, Trial, WORDS, Words};
+use super::tried::{Tried, passes_in_memory};
 use desk_types::limits::LOG_ENTRIES;
 use std::alloc::Global;
 use tests_streams::Sink;
@@ -120,7 +121,7 @@ const STOPPED: &[Row] = &[
 
 /// What a first file preserves, by a row.
 #[derive(Clone, Copy)]
-enum Preserved {
+pub enum Preserved {
     /// After a whole first start.
     Whole(usize),
     /// After one that stopped.
@@ -147,7 +148,7 @@ impl Trial for Preserved {
 fn a_node_starts_with_what_its_first_file_preserves(rt: HostRuntime) {
     for index in 0..ROWS.len() {
         assert!(rt;
-            passes_in_memory(rt.alloc(), &Preserved::Whole(index)),
+            passes_in_memory(rt.alloc(), Tried::Preserved(Preserved::Whole(index))),
             "{index}"
         );
     }
@@ -157,7 +158,7 @@ fn a_node_starts_with_what_its_first_file_preserves(rt: HostRuntime) {
 fn a_table_without_a_state_is_preserved_too(rt: HostRuntime) {
     for index in 0..STOPPED.len() {
         assert!(rt;
-            passes_in_memory(rt.alloc(), &Preserved::Stopped(index)),
+            passes_in_memory(rt.alloc(), Tried::Preserved(Preserved::Stopped(index))),
             "{index}"
         );
     }
@@ -165,5 +166,5 @@ fn a_table_without_a_state_is_preserved_too(rt: HostRuntime) {
 
 #[test]
 fn a_node_of_its_group_has_no_table_more(rt: HostRuntime) {
-    assert!(rt; passes_in_memory(rt.alloc(), &Preserved::Nothing));
+    assert!(rt; passes_in_memory(rt.alloc(), Tried::Preserved(Preserved::Nothing)));
 }

@@ -3,8 +3,9 @@
 
 ghost use Rattle.std.specs.Prelude.{◌≡◌};
 
-use super::files::{MOST, NodeFiles, Trial, WORDS, passes_in_memory, run_of};
-use super::starts::start;
+use super::files::{MOST, NodeFiles, WORDS, run_of};
+use super::starts::{After, start};
+use super::tried::{Tried, passes_in_memory};
 use std::alloc::Global;
 
 /// The files of two epochs, made again where memory for them is refused.
@@ -16,7 +17,7 @@ fn databases_at_last<F: NodeFiles + Drop>(alloc: Global) -> Option<F::Databases>
 }
 
 /// Whether a node starts where its files end, or is refused by 40 or 41 and starts there the next time.
-fn starts_at_last<F: NodeFiles + Drop>(alloc: Global) -> bool {
+pub fn starts_at_last<F: NodeFiles + Drop>(alloc: Global) -> bool {
     let Some(databases) = databases_at_last::<F>(alloc) else {
         return false;
     };
@@ -29,17 +30,7 @@ fn starts_at_last<F: NodeFiles + Drop>(alloc: Global) -> bool {
     }
 }
 
-/// A start for which memory may be refused.
-#[derive(Clone, Copy)]
-struct Start;
-
-impl Trial for Start {
-    fn passes<F: NodeFiles + Drop>(&self, alloc: Global) -> bool {
-        starts_at_last::<F>(alloc)
-    }
-}
-
 #[test]
 fn a_start_without_memory_is_made_again(rt: HostRuntime) {
-    assert!(rt; passes_in_memory(rt.alloc(), &Start));
+    assert!(rt; passes_in_memory(rt.alloc(), Tried::After(After::RefusedMemory)));
 }

@@ -3,7 +3,9 @@
 ghost use Rattle.std.specs.Prelude.{◌≡◌};
 
 use super::databases::Databases;
-use super::files::{MOST, NodeFiles, Trial, WORDS, passes_in_memory, replaced_run, run_of};
+use super::files::{MOST, NodeFiles, Trial, WORDS, replaced_run, run_of};
+use super::memory::starts_at_last;
+use super::tried::{Tried, passes_in_memory};
 use desk_epoch_stores::{EpochStores, OpenedEpoch};
 use std::alloc::Global;
 
@@ -69,11 +71,14 @@ fn is_next<F: NodeFiles + Drop>(alloc: Global, row: &(&[u64], u64, usize)) -> bo
     }
 }
 
-/// A start after a run, by a row.
+/// A start after a run.
 #[derive(Clone, Copy)]
-enum After {
+pub enum After {
+    /// By a row.
     Run(usize),
     ReplacedRun(usize),
+    /// One for which memory may be refused.
+    RefusedMemory,
 }
 
 impl Trial for After {
@@ -87,6 +92,7 @@ impl Trial for After {
                 Some(row) => is_next::<F>(alloc, row),
                 None => false,
             },
+            After::RefusedMemory => starts_at_last::<F>(alloc),
         }
     }
 }
@@ -94,7 +100,10 @@ impl Trial for After {
 #[test]
 fn a_node_goes_on_where_its_files_end(rt: HostRuntime) {
     for index in 0..STARTS.len() {
-        assert!(rt; passes_in_memory(rt.alloc(), &After::Run(index)), "{index}");
+        assert!(rt;
+            passes_in_memory(rt.alloc(), Tried::After(After::Run(index))),
+            "{index}"
+        );
     }
 }
 
@@ -102,7 +111,7 @@ fn a_node_goes_on_where_its_files_end(rt: HostRuntime) {
 fn an_epoch_ends_where_another_node_is_named(rt: HostRuntime) {
     for index in 0..REPLACED.len() {
         assert!(rt;
-            passes_in_memory(rt.alloc(), &After::ReplacedRun(index)),
+            passes_in_memory(rt.alloc(), Tried::After(After::ReplacedRun(index))),
             "{index}"
         );
     }

@@ -3,8 +3,9 @@
 ghost use Rattle.std.specs.Prelude.{◌≡◌};
 
 use super::databases::{Databases, Stop};
-use super::files::{NodeFiles, Trial, WORDS, passes_in_memory, run_of};
+use super::files::{NodeFiles, Trial, WORDS, run_of};
 use super::starts::{Start, start};
+use super::tried::{Tried, passes_in_memory};
 use std::alloc::Global;
 
 /// How many entries each epoch has committed, the file that is lost then, the token that is named for the node, how it
@@ -115,7 +116,7 @@ fn is_stopped_well<F: NodeFiles + Drop>(alloc: Global, row: &Row, name: &'static
 
 /// Starts of a row that a file of this name stops.
 #[derive(Clone, Copy)]
-struct Stopped {
+pub struct Stopped {
     row: &'static Row,
     name: &'static str,
 }
@@ -131,7 +132,7 @@ fn a_start_that_a_file_stops_is_made_again(rt: HostRuntime) {
     for row in ROWS {
         for name in row.4 {
             assert!(rt;
-                passes_in_memory(rt.alloc(), &Stopped { row, name }),
+                passes_in_memory(rt.alloc(), Tried::Stopped(Stopped { row, name })),
                 "{name}"
             );
         }
