@@ -137,9 +137,10 @@ pub fn admit<I: Read + Drop, O: Write + Drop>(
         (I.remaining input) (opened_bytes s.input.key.block.value s.input.count
         (slice_range s.input.room.items s.input.from s.input.until) (take s.input.held s.input.room.items)
         (I.remaining s.input.inner))) }
-    // It was sent the challenge to its hello before the first record, and nothing else.
+    // It was sent the challenge to its hello before the first record, and nothing else. What is written then goes as
+    // records, by the key of this connection and direction.
     ensures sent { IfOk result (λ s. HasSentChallenge (key_block port.now.key.bytes) port.now.endpoint nonce.now
-        (I.remaining input) (O.contents output) (O.contents s.output.inner)) }
+        (I.remaining input) (O.contents output) (O.contents s.output.inner) s.output.key.block.value) }
 {
     let (mut input, mut output) = (input, output);
     let key = port.key.for_tags();
@@ -166,12 +167,13 @@ pub fn dial<I: Read + Drop, O: Write + Drop>(
     nonce: &[u8; 32],
 ) -> Result<(Opened<I>, Sealed<O>), NotAdmitted>
     // The port sent the challenge to just this hello; what is read of it then was carried by right records. It was sent
-    // the hello and the proof before the first record, and nothing else.
+    // the hello and the proof before the first record, and nothing else. What is written then goes as records, by the
+    // key of this connection and direction.
     ensures challenged { IfOk result (λ ends. IsChallenged (key_block port.now.key.bytes)
         (hello_bytes port.now.endpoint from nonce.now) (I.remaining input)
         (opened_bytes ends.0.key.block.value ends.0.count (slice_range ends.0.room.items ends.0.from ends.0.until)
         (take ends.0.held ends.0.room.items) (I.remaining ends.0.inner))
-        (O.contents output) (O.contents ends.1.inner)) }
+        (O.contents output) (O.contents ends.1.inner) ends.1.key.block.value) }
     // What is written then goes as records, by a key that comes of the same hello.
     ensures sealed { IfOk result (λ ends. SealsToward (key_block port.now.key.bytes)
         (hello_bytes port.now.endpoint from nonce.now) ends.1.key.block.value) }

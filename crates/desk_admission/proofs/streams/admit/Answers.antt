@@ -2,7 +2,7 @@ use Rattle.std.proofs.Common.{◌≡◌, ℕ, List, [], ◌++◌, ap, subst, sym
 use Rattle.std.specs.Io.KnownBytes.{Appends, Consumes, prepend_known}
 use Rattle.desk_key.specs.Hmac.{key_block}
 use Rattle.desk_records.specs.Streams.{opened_bytes}
-use Rattle.desk_admission.specs.Handshake.{challenge_bytes, initiator_proof, toward_acceptor}
+use Rattle.desk_admission.specs.Handshake.{challenge_bytes, initiator_proof, toward_acceptor, toward_initiator}
 use Rattle.desk_admission.proofs.Prefixed.{front_came}
 use Rattle.desk_admission.proofs.streams.admit.Goals as goal
 
@@ -23,6 +23,9 @@ returns g c =
     let receiving : c.into_keys.result.receiving.block.value ≡ toward_acceptor block hello nonce =
     c.into_keys.ensures.receiving ∙ ap (λ b. toward_acceptor b hello end.nonce) key
     ∙ ap (λ n. toward_acceptor block hello n) c.in_ok-end.ensures.nonce in
+    let sending : c.into_keys.result.sending.block.value ≡ toward_initiator block hello nonce =
+    c.into_keys.ensures.sending ∙ ap (λ b. toward_initiator b hello end.nonce) key
+    ∙ ap (λ n. toward_initiator block hello n) c.in_ok-end.ensures.nonce in
     record {
       admitted = record {
         hello = hello;
@@ -41,5 +44,6 @@ returns g c =
             (sym c.in_ok-input.ensures.inner)
             (subst (λ b. Appends first last (challenge_bytes b hello c.args.nonce.now)) c.for_tags-key.ensures
             c.in_ok-end.ensures.sent);
+        sealing_is = c.in_ok-input.ensures.sealed ∙ sending;
       };
     }

@@ -29,6 +29,7 @@ returns g c =
         sent = subst (λ o. Appends first (g.O.Write.contents o) (hello ++ initiator_proof block hello proved.nonce))
             (sym c.in_ok-input.ensures.inner)
             (subst (λ b. Appends first last (hello ++ initiator_proof b hello proved.nonce)) key proved.sent);
+        sealing_is = c.in_ok-input.ensures.sealed ∙ sending;
       };
       sealed = (proved.nonce, c.in_ok-input.ensures.sealed ∙ sending);
     }
