@@ -1,13 +1,13 @@
 //! What is tried with files in memory.
 
-use super::databases::MemoryDatabases;
+use super::databases::{Databases, MemoryDatabases};
 use super::ends::Printed;
 use super::faults::Faulty;
 use super::files::{NodeFiles, Trial};
 use super::members::Preserved;
 use super::starts::After;
 use super::stops::Stopped;
-use desk_epoch_files::EpochFiles;
+use desk_epoch_files::{EpochFiles, NamedDatabases};
 use std::alloc::Global;
 
 /// What is tried.
@@ -32,7 +32,13 @@ impl Trial for Tried {
     }
 }
 
-/// Whether it ends as it should. The type of the databases is named here alone, as each proof that knows it takes long.
+/// Whether it ends as it should with the files of a node over these databases.
+// The type of the files is named here, and that of the databases after it: a proof that knows both takes too long.
+fn passes_over<D: NamedDatabases + Databases + Drop>(alloc: Global, tried: Tried) -> bool {
+    tried.passes::<EpochFiles<D>>(alloc)
+}
+
+/// Whether it ends as it should with files in memory.
 pub fn passes_in_memory(alloc: Global, tried: Tried) -> bool {
-    tried.passes::<EpochFiles<MemoryDatabases>>(alloc)
+    passes_over::<MemoryDatabases>(alloc, tried)
 }
