@@ -150,8 +150,8 @@ impl<R: Wait + Clock + Drop> PeerQueues<R> {
     /// Puts a packet into the queue to a node, without waiting. It is false where the packet is lost: the queue is
     /// full, or its taking end is gone, or the node is this one itself, or none of the group. A `DoViewChange` or a
     /// `StartView` of 256 entries or more that comes again for a node, of the same epoch, purpose and view, is lost,
-    /// too, but each tenth time: what takes a tick's time to send would fill the queue otherwise. A `GetState` by the
-    /// rules of its epoch that comes again is, but for one in 200 ms.
+    /// too, but each tenth time: what takes a tick's time to send would fill the queue otherwise. So is a past log of
+    /// as many, but once in five seconds, and a `GetState` by the rules of its epoch, but once in 200 ms.
     pub fn put(&mut self, to: u8, packet: EpochPacket) -> bool
         ensures put { put_to self.new to ≡ (if result then put_to self.old to ++ packet ∷ [] else put_to self.old to) }
         ensures same { IsSameEnd (end_to self.old to) (end_to self.new to) }

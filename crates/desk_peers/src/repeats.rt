@@ -9,6 +9,8 @@ pub const LONG_PACKET_ENTRIES: usize = 256;
 pub const REPEATS_A_PUT: u32 = 10;
 /// So long after an ask for entries was put for a node, the same one is put again, in milliseconds.
 const ASK_MILLISECONDS: u128 = 200;
+/// The same of a past log. It may take some seconds to send.
+const PAST_LOG_MILLISECONDS: u128 = 5_000;
 
 /// The kinds of packets that may be long, or ask for one.
 #[derive(Clone, Copy, PartialEq)]
@@ -16,6 +18,7 @@ enum LongKind {
     DoViewChange,
     StartView,
     GetState,
+    NewState,
 }
 
 /// What a long packet, or an ask, has in common with the same one when it is sent again.
@@ -25,7 +28,7 @@ struct LongPacket {
     purpose: Purpose,
     kind: LongKind,
     view: u64,
-    /// The place after which an ask wants entries.
+    /// The place after which its entries stand, or those that it asks for.
     base: u64,
 }
 
@@ -43,11 +46,17 @@ fn ask_by_rules(packet: &EpochPacket, view: u64, base: u64) -> Option<LongPacket
     }
 }
 
-/// What a packet is as a long one, if it is long, or asks for one. A `NewState` is as seldom as its ask.
+/// What a packet is as a long one, if it is long, or asks for one. An answer by the rules is as seldom as its ask.
 fn long_packet(packet: &EpochPacket) -> Option<LongPacket> {
-    let (kind, view, entries) = match packet.packet.message() {
-        Message::DoViewChange { view, log, .. } => (LongKind::DoViewChange, *view, log),
-        Message::StartView { view, log, .. } => (LongKind::StartView, *view, log),
+    let (kind, view, base, entries) = match packet.packet.message() {
+        Message::DoViewChange { view, log, .. } => (LongKind::DoViewChange, *view, 0, log),
+        Message::StartView { view, log, .. } => (LongKind::StartView, *view, 0, log),
+        Message::NewState {
+            view,
+            base,
+            entries,
+            ..
+        } if packet.purpose == Purpose::Tell => (LongKind::NewState, *view, *base, entries),
         Message::GetState { view, base, .. } => return ask_by_rules(packet, *view, *base),
         _ => return None,
     };
@@ -59,12 +68,12 @@ fn long_packet(packet: &EpochPacket) -> Option<LongPacket> {
         purpose: packet.purpose,
         kind,
         view,
-        base: 0,
+        base,
     })
 }
 
-/// The long packet, or the ask, that came last for a node, how often it came again since it was put, and when an ask
-/// was put, where the clock said it.
+/// The long packet, or the ask, that came last for a node, how often it came again since it was put, and when one that
+/// is put again by the clock was put, where that said it.
 #[derive(Clone, Copy)]
 pub(crate) struct Repeats {
     last: Option<LongPacket>,
@@ -92,12 +101,12 @@ impl Repeats {
         true
     }
 
-    /// Whether an ask that came again is to be put, since it was put long ago. A node that lacks entries asks at each
-    /// packet of its primary, and that copies all of them each time. One that was lost is soon put again.
-    fn admit_ask<R: Clock>(&mut self, rt: &R) -> bool {
+    /// Whether what came again is to be put, since it was put so many milliseconds ago. A node that lacks entries asks
+    /// at each packet of its primary, and that copies all of them each time. One that was lost is soon put again.
+    fn admit_after<R: Clock>(&mut self, rt: &R, milliseconds: u128) -> bool {
         let is_due = match self.put {
             Some(put) => match put.elapsed(rt) {
-                Ok(passed) => passed.as_millis() >= ASK_MILLISECONDS,
+                Ok(passed) => passed.as_millis() >= milliseconds,
                 Err(_) => true,
             },
             None => true,
@@ -109,23 +118,23 @@ impl Repeats {
     }
 
     /// Whether a packet is to be put: it is not long and asks for none, or is another than the one that came last, or
-    /// that one once more, as `admit_log` and `admit_ask` say.
+    /// that one once more, as `admit_log` and `admit_after` say.
     pub(crate) fn admit<R: Clock>(&mut self, rt: &R, packet: &EpochPacket) -> bool {
         let Some(long) = long_packet(packet) else {
             return true;
         };
-        let is_ask = long.kind == LongKind::GetState;
         if self.last != Some(long) {
             *self = Repeats {
                 last: Some(long),
                 since: 0,
-                put: if is_ask { Instant::now(rt).ok() } else { None },
+                put: Instant::now(rt).ok(),
             };
             return true;
         }
-        if is_ask {
-            return self.admit_ask(rt);
+        match long.kind {
+            LongKind::GetState => self.admit_after(rt, ASK_MILLISECONDS),
+            LongKind::NewState => self.admit_after(rt, PAST_LOG_MILLISECONDS),
+            LongKind::DoViewChange | LongKind::StartView => self.admit_log(),
         }
-        self.admit_log()
     }
 }

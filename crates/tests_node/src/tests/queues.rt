@@ -153,8 +153,9 @@ fn past_logs_put<R: Wait + Clock + Drop + Copy>(rt: R, alloc: Global) -> Option<
 }
 
 #[test]
-fn a_past_log_that_is_sent_again_is_put_each_time(rt: HostRuntime) {
-    assert!(rt; past_logs_put(rt, rt.alloc()) == Some(TIMES));
+fn a_past_log_that_comes_again_is_put_seldom(rt: HostRuntime) {
+    let put = past_logs_put(rt, rt.alloc()).unwrap_or(0);
+    assert!(rt; 1 <= put && put <= 4, "{put}");
 }
 
 /// An ask for the entries after a place, for this purpose.
