@@ -23,7 +23,7 @@ use Rattle.desk_epoch_node.specs.Replacements.{named_by}
 use Rattle.desk_epoch_replica.specs.declared.item.EpochItem.{EpochItem}
 use Rattle.desk_epoch_replica.specs.declared.item.EpochItem.TheVariants as items
 use Rattle.desk_types.specs.declared.limits.TheConstants.{SUSPECT_TICKS}
-use Rattle.desk_epoch_replica.specs.declared.limits.TheConstants.{ASK_TICKS}
+use Rattle.desk_epoch_replica.specs.declared.limits.TheConstants.{ASK_TICKS, TELL_TICKS}
 use Rattle.desk_epoch_replica.specs.declared.heard.HeardToken.{HeardToken}
 use Rattle.desk_epoch_replica.specs.Heard.{asker, tokens_heard_with, hears, one_tick_older}
 use Rattle.desk_epoch_replica.specs.MemberValue.{MemberValue, member_suspects}
@@ -91,7 +91,7 @@ ask_ticks_at ticks item = ticks
 
 -- and since each node was last told one
 abbrev pub tell_ticks_at : List ℕ → EpochItem → List ℕ
-tell_ticks_at ticks items.Tick = map (one_more_up_to ASK_TICKS) ticks
+tell_ticks_at ticks items.Tick = map (one_more_up_to TELL_TICKS) ticks
 tell_ticks_at ticks item = ticks
 
 -- and the token that each node last said

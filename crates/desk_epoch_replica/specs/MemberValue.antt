@@ -5,7 +5,7 @@ use Rattle.desk_log.specs.Change.{leads}
 use Rattle.desk_epoch_node.specs.EpochValue.{EpochValue}
 use Rattle.desk_epoch_node.specs.PastRows.{PastValue, StandFor}
 use Rattle.desk_types.specs.declared.limits.TheConstants.{SUSPECT_TICKS}
-use Rattle.desk_epoch_replica.specs.declared.limits.TheConstants.{ASK_TICKS}
+use Rattle.desk_epoch_replica.specs.declared.limits.TheConstants.{ASK_TICKS, TELL_TICKS}
 use Rattle.desk_epoch_replica.specs.declared.heard.HeardToken.{HeardToken}
 use Rattle.desk_epoch_replica.specs.Heard.{unheard}
 use Rattle.desk_epoch_replica.specs.Ticks.{one_more_up_to}
@@ -31,7 +31,7 @@ new_member e = record {
   node = e;
   ticks = 0;
   ask_ticks = ASK_TICKS;
-  tell_ticks = replicate e.node.n ASK_TICKS;
+  tell_ticks = replicate e.node.n TELL_TICKS;
   heard = replicate e.node.n unheard;
   refused = 0;
 }

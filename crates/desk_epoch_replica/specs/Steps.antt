@@ -5,7 +5,7 @@ use Rattle.desk_types.specs.declared.command.Entry.{Entry}
 use Rattle.desk_epoch_node.specs.declared.step.EpochStep.{EpochStep}
 use Rattle.desk_epoch_node.specs.declared.step.EpochStep.TheVariants as steps
 use Rattle.desk_epoch_replica.specs.declared.item.EpochItem.{EpochItem}
-use Rattle.desk_epoch_replica.specs.declared.limits.TheConstants.{ASK_TICKS}
+use Rattle.desk_epoch_replica.specs.declared.limits.TheConstants.{ASK_TICKS, TELL_TICKS}
 use Rattle.desk_epoch_replica.specs.declared.replica_step.EpochAnswer.TheVariants as answers
 use Rattle.desk_epoch_replica.specs.declared.replica_step.ReplicaStep.{ReplicaStep}
 use Rattle.desk_epoch_replica.specs.declared.replica_step.ReplicaStep.TheVariants as out
@@ -18,7 +18,7 @@ may_ask ticks = ticks == ASK_TICKS
 
 -- whether a node may be told a log
 abbrev pub may_tell : List ℕ → ℕ → Bool
-may_tell ticks to = nat_lt to (length ticks) && (slice_index_or ticks to 0 == ASK_TICKS)
+may_tell ticks to = nat_lt to (length ticks) && (slice_index_or ticks to 0 == TELL_TICKS)
 
 -- What is sent and answered. An ask is dropped where the member asked shortly before, and a log is told to no node that
 -- was told one shortly before.

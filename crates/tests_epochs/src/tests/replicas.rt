@@ -287,7 +287,9 @@ const ASKS_AND_TELLS: &[Row] = &[
     (Asked::Meet(Comes::Tell(0, 0, 2)), ("began", 1)),
     (Asked::Meet(Comes::Ask(0, 0)), ("tell", 0)),
     (Asked::Meet(Comes::Ask(0, 0)), ("nothing", 0)),
-    (Asked::Ticks(50), ("ticks", 50)),
+    (Asked::Ticks(39), ("ticks", 39)),
+    (Asked::Meet(Comes::Ask(0, 0)), ("nothing", 0)),
+    (Asked::Ticks(1), ("ticks", 1)),
     (Asked::Meet(Comes::Ask(0, 0)), ("tell", 0)),
 ];
 
