@@ -247,7 +247,7 @@ first_node_is domain n i view node p q r =
     ∙ ap (λ (x : ℕ). node_in_view domain i x view) r)
 
 pub view_below : (acting : Bool) (node : NodeValue) → 0 < node.n → next_view acting node < node.n
-view_below true node some = mod-lt node.saved.view some
+view_below true node some = mod-lt node.saved.normal some
 view_below false node some = some
 
 -- Node i begins the next epoch after a log that the desk lets it have behind it.

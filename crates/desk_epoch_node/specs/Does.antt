@@ -39,10 +39,10 @@ abbrev pub node_in_view : List ℕ → ℕ → ℕ → ℕ → NodeValue
 node_in_view domain id n view =
     record { domain = domain; id = id; n = n; saved = in_view view initial_saved; heard = silence n }
 
--- The first view in which who led the epoch before, or was to lead it, leads again. Who does not act stays in the
--- first one.
+-- The first view in which the primary of the last view in which the node was normal leads again: so it counts for
+-- nothing whom the node suspected since. Who does not act stays in the first one.
 abbrev pub next_view : Bool → NodeValue → ℕ
-next_view acting node = if acting then primary node.n node.saved.view else 0
+next_view acting node = if acting then primary node.n node.saved.normal else 0
 
 -- the node of the next epoch, which acts there or not
 abbrev pub next_node : Bool → NodeValue → NodeValue

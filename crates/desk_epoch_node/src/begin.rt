@@ -82,7 +82,7 @@ impl EpochNode {
         let member = self.node.member();
         let standing = standing_after(past.replacements(), member.id, self.token);
         let view = match standing {
-            Standing::Acts => member.primary(self.node.saved().view()),
+            Standing::Acts => member.primary(self.node.saved().normal()),
             Standing::Awaits | Standing::Replaced => 0,
         };
         let packets = view_requests(member, view)?;

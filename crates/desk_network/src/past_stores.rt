@@ -79,8 +79,8 @@ impl<T: EpochStores, P: PastStores<T> + Drop> Drop for PastStore<T, P> {
 enum Progress<T: EpochStores, P: PastStores<T> + Drop> {
     /// It waits for an ask.
     Idle(P),
-    /// It opens a store.
-    Opens,
+    /// It opens a store, beside which other ones count as asked for so often.
+    Opens(u8),
     /// It has opened one, and other ones were asked for so often since.
     Opened(PastStore<T, P>, u8),
 }
@@ -184,17 +184,18 @@ fn pass_over<T: EpochStores, P: PastStores<T> + Drop>(
 fn take_opened<T: EpochStores, P: PastStores<T> + Drop, R: Clock + Wait>(
     rt: &R,
     opened: Taker<PastStore<T, P>>,
+    others: u8,
 ) -> (Taker<PastStore<T, P>>, Progress<T, P>) {
     let mut opened = opened;
     for _ in 0..SHORT_WAITS {
         let (back, sent) = opened.try_take(rt);
         opened = back;
         if let Some(sent) = sent {
-            return (opened, Progress::Opened(sent.item, 0));
+            return (opened, Progress::Opened(sent.item, others));
         }
         thread::sleep(rt, Duration::from_millis(1));
     }
-    (opened, Progress::Opens)
+    (opened, Progress::Opens(others))
 }
 
 impl<T: EpochStores, P: PastStores<T> + Drop> Progress<T, P> {
@@ -230,8 +231,8 @@ impl<T: EpochStores, P: PastStores<T> + Drop> Progress<T, P> {
 }
 
 impl<T: EpochStores, P: PastStores<T> + Drop> PastReader<T, P> {
-    /// Asks the thread for a store, where it waits for an ask.
-    fn ask<R: Wait>(self, rt: &R, epoch: u64) -> PastReader<T, P> {
+    /// Asks the thread for a store, where it waits for an ask. Other ones count as asked for so often since.
+    fn ask<R: Wait>(self, rt: &R, epoch: u64, others: u8) -> PastReader<T, P> {
         let PastReader {
             asks,
             opened,
@@ -249,7 +250,7 @@ impl<T: EpochStores, P: PastStores<T> + Drop> PastReader<T, P> {
         };
         let (asks, put) = asks.try_put(rt, PastAsk { past, epoch });
         let progress = match put {
-            Ok(()) => Progress::Opens,
+            Ok(()) => Progress::Opens(others),
             Err(back) => Progress::Idle(back.past),
         };
         PastReader {
@@ -267,7 +268,7 @@ impl<T: EpochStores, P: PastStores<T> + Drop> PastReader<T, P> {
             progress,
         } = self;
         let (opened, progress) = match progress {
-            Progress::Opens => take_opened(rt, opened),
+            Progress::Opens(others) => take_opened(rt, opened, others),
             other => (opened, other),
         };
         PastReader {
@@ -307,7 +308,13 @@ impl<T: EpochStores, P: PastStores<T> + Drop> PastReader<T, P> {
         ensures running { IfSome result.1 (λ store. T.Store.stopped store ≡ false) }
         ensures held { IfSome result.1 (λ store. T.may_hold stores.now epoch (T.Store.last store)) }
     {
-        self.ask(rt, epoch).wait(rt).take_store(epoch, stores)
+        self.ask(rt, epoch, 0).wait(rt).take_store(epoch, stores)
+    }
+
+    /// Has the thread open a store that is likely to be asked for next, where it waits for an ask. If another one is
+    /// asked for, this one is let go.
+    pub(crate) fn open_ahead<R: Wait>(self, rt: &R, epoch: u64) -> PastReader<T, P> {
+        self.ask(rt, epoch, OTHERS_ASKED)
     }
 }
 

@@ -87,7 +87,14 @@ impl<T: EpochStores, P: PastStores<T> + Drop, R: Clock + Wait + Copy + Drop> Wat
     PastReader<T, P>,
     R,
 > {
-    /// The store of an epoch that was opened before, where the thread has opened it. None where there is no thread.
+    /// Whether an epoch has ended, as far as that is known here: the keeper opened the store of its own epoch, and that
+    /// of the next one perhaps.
+    fn has_ended(&self, epoch: u64) -> bool {
+        epoch.saturating_add(2) < self.opened
+    }
+
+    /// The store of an epoch that was opened before, where the thread has opened it. None where there is no thread. A
+    /// node that asks for its log asks for the next one soon, so that one's store is opened ahead.
     fn open_by_reader(&mut self, epoch: u64) -> Option<Option<T::Store>>
         ensures running { IfSome result (λ opened. IfSome opened (λ store. T.Store.stopped store ≡ false)) }
         ensures held { IfSome result (λ opened. IfSome opened
@@ -99,7 +106,12 @@ impl<T: EpochStores, P: PastStores<T> + Drop, R: Clock + Wait + Copy + Drop> Wat
         }
         let reader = self.reader.take()?;
         let (reader, store) = reader.open(&self.rt, epoch, &self.stores);
-        self.reader = Some(reader);
+        let next = epoch.saturating_add(1);
+        self.reader = if store.is_some() && self.has_ended(next) {
+            Some(reader.open_ahead(&self.rt, next))
+        } else {
+            Some(reader)
+        };
         Some(store)
     }
 
