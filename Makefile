@@ -22,6 +22,7 @@ bench:
 	scripts/bench/commit-latency
 	scripts/bench/replay-speed
 	scripts/bench/read-latency
+	scripts/bench/view-change-seconds
 	scripts/bench/answer-speed
 	scripts/bench/node-memory
 	scripts/bench/epoch-starts
