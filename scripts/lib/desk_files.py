@@ -1,10 +1,11 @@
 """The files of nodes, made as docs/FORMATS.md says, with logs that have entries already."""
 import random
+import shutil
 import sqlite3
 
 from command_bytes import body_of
 from desk_clients import SECONDS, SHOWING, Drawer
-from desk_nodes import DOMAIN, file_of
+from desk_nodes import DOMAIN, epoch_file, file_of
 
 # those of version 1
 TABLES = '''CREATE TABLE node (slot INTEGER PRIMARY KEY CHECK (slot = 1),
@@ -58,6 +59,17 @@ def make_file(file, node, n, commands, version=2, page=PAGES[0], epoch=0, places
         base.execute('INSERT INTO member VALUES (0, ?)', [places])
     base.commit()
     base.close()
+
+
+def make_epoch(room, n, commands, epoch=0, page=PAGES[0]):
+    """The files of an epoch of all nodes of a group, whose logs have these commands. They differ in the node alone."""
+    first, *others = [epoch_file(file_of(room, node), epoch) for node in range(n)]
+    make_file(first, 0, n, commands, page=page, epoch=epoch)
+    for node, file in enumerate(others, 1):
+        shutil.copyfile(first, file)
+        with sqlite3.connect(file) as base:
+            base.execute('UPDATE node SET id = ?', (node,))
+        base.close()
 
 
 def make_logs(room, n, count, version=2, pages=PAGES, places=0):
